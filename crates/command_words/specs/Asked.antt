@@ -53,6 +53,7 @@ check_view words = record {
 pub record EvalView : Type 0 where
   pub strict : Bool
   pub unanswered : Bool
+  pub changed : Bool
   pub json : Bool
   pub keep_going : Bool
   pub stop_at_error : Bool
@@ -65,6 +66,7 @@ abbrev pub eval_view : EvalWords → EvalView
 eval_view words = record {
   strict = words.strict;
   unanswered = words.unanswered;
+  changed = words.changed;
   json = words.json;
   keep_going = words.keep_going;
   stop_at_error = words.stop_at_error;
@@ -231,8 +233,14 @@ unanswered_rule = record (new_rule (codes "unanswered")) { long = Some (codes "u
 abbrev pub with_unanswered : Text → App
 with_unanswered name = with_rule (with_strict name) unanswered_rule
 
+abbrev pub changed_rule : Rule
+changed_rule = record (new_rule (codes "changed")) { long = Some (codes "changed"); action = Some SetTrue }
+
+abbrev pub with_changed : Text → App
+with_changed name = with_rule (with_unanswered name) changed_rule
+
 abbrev pub with_eval_json : Text → App
-with_eval_json name = with_rule (with_unanswered name) json_rule
+with_eval_json name = with_rule (with_changed name) json_rule
 
 abbrev pub with_timeout : Text → App
 with_timeout name = with_rule (with_eval_json name) timeout_rule
@@ -362,6 +370,7 @@ abbrev pub eval_in : List Row → EvalView
 eval_in rows = record {
   strict = is_set (first_of (codes "strict") rows);
   unanswered = is_set (first_of (codes "unanswered") rows);
+  changed = is_set (first_of (codes "changed") rows);
   json = is_set (first_of (codes "json") rows);
   keep_going = is_set (first_of (codes "keep-going") rows);
   stop_at_error = is_set (first_of (codes "stop-at-error") rows);

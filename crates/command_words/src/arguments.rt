@@ -97,6 +97,12 @@ const UNANSWERED: Word = Word {
     help: "Evaluate only fields without an answer",
 };
 
+const CHANGED: Word = Word {
+    name: "changed",
+    given: Given::Flag,
+    help: "Evaluate only sessions in which a field shows no answer",
+};
+
 const KEEP_GOING: Word = Word {
     name: "keep-going",
     given: Given::Flag,
@@ -185,10 +191,11 @@ static LIVE: [Word; 3] = [PATH, JSON, PARTIAL];
 
 static SHOW: [Word; 3] = [PATH, JSON, AT];
 
-static EVAL: [Word; 10] = [
+static EVAL: [Word; 11] = [
     PATH,
     STRICT,
     UNANSWERED,
+    CHANGED,
     JSON,
     FIELD_TIMEOUT,
     KEEP_GOING,

@@ -116,13 +116,18 @@ const EVAL_NOTES: &str =
     "It evaluates the fields of each session in the worksheet's order, each by an `eval`\n\
 and a `wait`, and writes what `live` writes of these. Each answer that it reports is\n\
 on the disk. Interpreters start empty; at the end each is stopped. A line at the end\n\
-has the counts of the whole worksheet, as `answered 12 unanswered 1`.\n\n\
+has the counts of the whole worksheet, as `answered 12 unanswered 1`. A line\n\
+`errors 3` comes after it where so many fields show an answer that is an error.\n\n\
 With IDs only the fields with these numbers are evaluated, each once; with --from\n\
 the field with this number and those after it. Both at once are refused. Variables\n\
 of fields that aren't evaluated are missing. Where no field has one of the numbers\n\
 nothing is evaluated: that is the fault 37 NoField. Nor is anything where the\n\
 program of a session isn't there: 44 NoProgram. With --unanswered only those of\n\
 all, of the IDs or from the ID on that show no answer are evaluated.\n\n\
+With --changed the sessions in which a field shows no answer are evaluated, each\n\
+from its first field on; the others keep what they show. A field shows none after\n\
+each change of it; one that was removed or moved leaves no trace. It goes with no\n\
+IDs, no --from and no --unanswered.\n\n\
 Prose is passed over and not counted, but where its ID is given: fields of a\n\
 session whose program is `true` alone.\n\n\
 With --strict it stops after the first field that is lost or refused: the fields\n\

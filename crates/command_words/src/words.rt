@@ -96,6 +96,8 @@ pub struct EvalWords<'a> {
     pub strict: bool,
     /// It evaluates only fields without an answer.
     pub unanswered: bool,
+    /// It evaluates only sessions in which a field shows no answer.
+    pub changed: bool,
     /// It writes lines of JSON.
     pub json: bool,
     /// It passes over no field.
@@ -318,6 +320,7 @@ fn eval_words<'a>(alloc: Global, matches: &ArgMatches<'a>) -> Result<EvalWords<'
     Ok(EvalWords {
         strict: is_set(matches.get_str("strict")),
         unanswered: is_set(matches.get_str("unanswered")),
+        changed: is_set(matches.get_str("changed")),
         json: is_set(matches.get_str("json")),
         keep_going: is_set(matches.get_str("keep-going")),
         stop_at_error: is_set(matches.get_str("stop-at-error")),

@@ -25,7 +25,7 @@ use Rattle.child_edge.specs.declared.together.TogetherFault.TheVariants as at_ga
 use Rattle.child_edge.proofs.Faulting.{stopped_if}
 use Rattle.arrivals.specs.Watching.{Asked}
 use Rattle.arrivals.specs.declared.sources.Woken.{Woken}
-use Rattle.tellings.specs.Voice.{IsWithheld}
+use Rattle.tellings.specs.Voice.{CutShort, IsWithheld}
 use Rattle.tellings.specs.declared.note.Note.{Note}
 use Rattle.offline_programs.specs.declared.fault.RunFault.{RunFault}
 use Rattle.offline_programs.specs.declared.fault.RunFault.TheVariants as fault
@@ -40,11 +40,12 @@ use Rattle.driver.proofs.Running.{did_break, did_more, did_one, run_join}
 
 module _ {A C K : Type 0} (R : Rules A C K) (n : ℕ) (rest : List Item) (w : World) (h : HostView) (stands : IsHost h w) where
   pub did_print : (c : C) (k l : K) (a : A) (s : Report) (r : Result (Unit {0}) RunFault) → Tries R.sink k h.store.disk (printed_text R.sink.voice w s) (is_ok r) l → IfErr r (IsWithheld R.sink.voice)
+      → IfErr r (CutShort (R.sink.written k) (R.sink.written l) (printed_text R.sink.voice w s))
       → DidSteps R (seen n w (parts h c k a)) (print s ∷ rest) (left_by_answer (λ done. rest)) r (n, parts h c l a)
-  did_print c k l a s (Ok done) tries is =
+  did_print c k l a s (Ok done) tries is cut =
       did_one R (seen n w (parts h c k a)) (print s ∷ rest) (printed s) (left_by_answer (λ done. rest)) (Ok done) w (n, parts h c l a) (prints s l rest tries) stands
-  did_print c k l a s (Err why) tries is =
-      did_break R (seen n w (parts h c k a)) (print s) rest [] (λ done. rest) why w (n, parts h c l a) (unprinted s why l is tries) (works stands)
+  did_print c k l a s (Err why) tries is cut =
+      did_break R (seen n w (parts h c k a)) (print s) rest [] (λ done. rest) why w (n, parts h c l a) (unprinted s why l is (record { tried = tries.tried; cut = cut })) (works stands)
 
   pub did_heed : (c : C) (k : K) (a b : A) (x : TurnCame) (now : ℕ) (done : Unit {0}) → R.sources.clock c now → R.agenda.heeds a w now x None b
       → DidSteps R (seen n w (parts h c k a)) (heed x ∷ rest) (left_by_answer (λ done. rest)) (Ok done) (n, parts h c k b)

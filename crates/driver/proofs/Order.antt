@@ -101,8 +101,10 @@ no_words {A = A} {C = C} {K = K} R p q why next left before after s is r = by (a
     by (inr e) = fault_only R p q why left before after s (subst (λ (t : List Item). Run R p t (before ++ printed s ∷ after) left q) (is ∙ e) r)
 
 -- This was printed there, the steps before led there, and the others go on from there.
-pub record PrintedThere {A C K : Type 0} (R : Rules A C K) (p q : RunPlace A C K) (left : List Item) (before after : List RunStep) (s : Report) : Type 0 where
+pub record PrintedThere {A C K : Type 0} (R : Rules A C K) (p q : RunPlace A C K) (todo left : List Item) (before after : List RunStep) (s : Report) : Type 0 where
   pub there : RunPlace A C K
+  pub to_do : List Item
+  pub ran : Run R p todo before to_do there
   pub course : Course p.world p.disk (trace before) there.world there.disk
   pub sink : K
   pub tries : Tries R.sink there.sink there.disk (printed_text R.sink.voice there.world s) true sink
@@ -110,14 +112,16 @@ pub record PrintedThere {A C K : Type 0} (R : Rules A C K) (p q : RunPlace A C K
   pub goes_on : Run R (record there { sink = sink }) then_to_do after left q
 
 pub printed_there : {A C K : Type 0} (R : Rules A C K) (p q : RunPlace A C K) (todo left : List Item) (before after : List RunStep) (s : Report)
-    → Run R p todo (before ++ printed s ∷ after) left q → PrintedThere R p q left before after s
+    → Run R p todo (before ++ printed s ∷ after) left q → PrintedThere R p q todo left before after s
 printed_there R p q todo left [] after s (next, mid, prints x k rest tries, more) =
-    record { there = p; course = no_step p.world p.disk; sink = k; tries = tries; then_to_do = next; goes_on = more }
+    record { there = p; to_do = todo; ran = (refl, refl); course = no_step p.world p.disk; sink = k; tries = tries; then_to_do = next; goes_on = more }
 printed_there R p q todo left (x ∷ before) after s (next, mid, goes, more) = by (printed_there R mid q next left before after s more) (step_course R p mid todo next x goes)
   where
-    by : PrintedThere R mid q left before after s → (Course p.world p.disk (entries_of x) mid.world mid.disk ⊎ Broke R p x next mid) → PrintedThere R p q left (x ∷ before) after s
+    by : PrintedThere R mid q next left before after s → (Course p.world p.disk (entries_of x) mid.world mid.disk ⊎ Broke R p x next mid) → PrintedThere R p q todo left (x ∷ before) after s
     by so (inl c) = record {
       there = so.there;
+      to_do = so.to_do;
+      ran = (next, mid, goes, so.ran);
       course = course_on p.world p.disk (entries_of x) mid.world mid.disk (trace before) so.there.world so.there.disk c so.course;
       sink = so.sink;
       tries = so.tries;
@@ -127,7 +131,7 @@ printed_there R p q todo left (x ∷ before) after s (next, mid, goes, more) = b
     by so (inr b) = absurd (no_words R mid q b.why next left before after s b.left more)
 
 pub replies_follow : {A C K : Type 0} (R : Rules A C K) (p q : RunPlace A C K) (todo left : List Item) (before after : List RunStep) (s : Report)
-    → HoldsSheet p.world p.disk → Run R p todo (before ++ printed s ∷ after) left q → PrintedAfter R p before s
+    → HoldsSheet p.world p.disk → Run R p todo (before ++ printed s ∷ after) left q → PrintedAfter R p todo before s
 replies_follow R p q todo left before after s held r =
     let so = printed_there R p q todo left before after s r in
-    record { there = so.there; runs = so.course.runs; holds = so.course.holds held; sink = so.sink; tries = so.tries }
+    record { there = so.there; to_do = so.to_do; ran = so.ran; runs = so.course.runs; holds = so.course.holds held; sink = so.sink; tries = so.tries }

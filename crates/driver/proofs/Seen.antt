@@ -13,7 +13,7 @@ use Rattle.offline_programs.specs.declared.fault.RunFault.{RunFault}
 use Rattle.driver.specs.declared.turn.Turn.{Turn}
 use Rattle.driver.specs.Reports.{TurnCame, printed_text}
 use Rattle.driver.specs.Items.{Item, RunStep}
-use Rattle.driver.specs.Place.{AgendaRules, RunPlace, Rules, Tries, rules, sink_rules}
+use Rattle.driver.specs.Place.{AgendaRules, RunPlace, Rules, Tries, TriesInVain, rules, sink_rules}
 use Rattle.driver.specs.Steps.{Fails, Goes, Run}
 use Rattle.driver.specs.Steps as step
 use Rattle.driver.specs.Over.{Over, ProgramParts, not_opened, ran_over}
@@ -23,7 +23,8 @@ module _ {A B C K L : Type 0} (R : Rules A C K) (S : AgendaRules B) (written : L
     (woken : (a : A) (w : Woken) (b : A) → R.agenda.woken a w b → S.woken (f a) w (f b))
     (heeds : (a : A) (w : World) (n : ℕ) (c : TurnCame) (note : Option Note) (b : A) → R.agenda.heeds a w n c note b → S.heeds (f a) w n c note (f b))
     (joins : (a : A) (w : World) (first : Option ℕ) (more : List Event) (b : A) → R.agenda.joins a w first more b → S.joins (f a) w first more (f b))
-    (tries : (k : K) (d : DiskView) (text : List ℕ) (whole : Bool) (l : K) → Tries R.sink k d text whole l → Tries (sink_rules R.sink.voice written tried) (g k) d text whole (g l)) where
+    (tries : (k : K) (d : DiskView) (text : List ℕ) (whole : Bool) (l : K) → Tries R.sink k d text whole l → Tries (sink_rules R.sink.voice written tried) (g k) d text whole (g l))
+    (in_vain : (k : K) (d : DiskView) (text : List ℕ) (why : RunFault) (l : K) → TriesInVain R.sink k d text why l → TriesInVain (sink_rules R.sink.voice written tried) (g k) d text why (g l)) where
   abbrev pub seen_rules : Rules B C L
   seen_rules = rules S R.sources (sink_rules R.sink.voice written tried)
 
@@ -66,7 +67,7 @@ module _ {A B C K L : Type 0} (R : Rules A C K) (S : AgendaRules B) (written : L
   fails_seen p q i entries why (step.unnumbered line many) = step.unnumbered line many
   fails_seen p q i entries why step.unstalled = step.unstalled
   fails_seen p q i entries why (step.uncounted_line first outcomes many) = step.uncounted_line first outcomes many
-  fails_seen p q i entries why (step.unprinted s w k is t) = step.unprinted s w (g k) is (tries p.sink p.disk (printed_text R.sink.voice p.world s) _ k t)
+  fails_seen p q i entries why (step.unprinted s w k is t) = step.unprinted s w (g k) is (in_vain p.sink p.disk (printed_text R.sink.voice p.world s) w k t)
 
   step_seen : (p q : RunPlace A C K) (todo next : List Item) (s : RunStep) → Goes R p todo s next q → Goes seen_rules (seen_place p) todo s next (seen_place q)
   step_seen p q todo next s (step.asks now t a clock said) = step.asks now t (f a) clock (says p.agenda p.world now (Ok t) a said)

@@ -26,7 +26,7 @@ module _ {A C K : Type 0} (R : Rules A C K) (n : ℕ) (rest : List Item) (w : Wo
   there = seen n w (parts h c k a)
 
   abbrev pub left_by : Whole → List Item
-  left_by made = printing_whole first made rest
+  left_by made = printing_whole first made ++ rest
 
   pub served_whole : (g : HostView) (made : Whole) → ServesWhole w events h g made → DidSteps R there (take_whole first events ∷ rest) (left_by_answer left_by) (Ok made) (n, parts g c k a)
   served_whole g (Taken outcomes) t =

@@ -36,9 +36,11 @@ abbrev pub RunsAreCutAnywhere : {A C K : Type 0} → Rules A C K → Type 0
 RunsAreCutAnywhere {A = A} {C = C} {K = K} R = (p q : RunPlace A C K) (todo left : List Item) (first last : List RunStep)
     → Run R p todo (first ++ last) left q → CutAt R p todo first last left q
 
--- This was printed when the events of the steps before it had led to that world, and the disk held its worksheet at every image.
-pub record PrintedAfter {A C K : Type 0} (R : Rules A C K) (p : RunPlace A C K) (before : List RunStep) (s : Report) : Type 0 where
+-- This was printed where the steps before it had led. Their events had led to that world, and the disk held its worksheet at every image.
+pub record PrintedAfter {A C K : Type 0} (R : Rules A C K) (p : RunPlace A C K) (todo : List Item) (before : List RunStep) (s : Report) : Type 0 where
   pub there : RunPlace A C K
+  pub to_do : List Item
+  pub ran : Run R p todo before to_do there
   pub runs : Runs p.world (events_of (trace before)) (outcomes_of (trace before)) there.world
   pub holds : HoldsSheet there.world there.disk
   pub sink : K
@@ -47,7 +49,7 @@ pub record PrintedAfter {A C K : Type 0} (R : Rules A C K) (p : RunPlace A C K) 
 -- A reply follows its sync: what is printed of events is printed when all that they gave is durable.
 abbrev pub RepliesFollowSyncs : {A C K : Type 0} → Rules A C K → Type 0
 RepliesFollowSyncs {A = A} {C = C} {K = K} R = (p q : RunPlace A C K) (todo left : List Item) (before after : List RunStep) (s : Report)
-    → HoldsSheet p.world p.disk → Run R p todo (before ++ printed s ∷ after) left q → PrintedAfter R p before s
+    → HoldsSheet p.world p.disk → Run R p todo (before ++ printed s ∷ after) left q → PrintedAfter R p todo before s
 
 -- What a run left of the disk at every moment, from its first place to its last: each image was one of the worksheet after some of the first events of
 -- its trace. Where it broke off at an event, that had this fault; where the disk failed at a gate, an image may be one of the worksheet after events

@@ -4,6 +4,7 @@ pub mod Items
 pub mod Hearing
 pub mod Steps
 pub mod Runs
+pub mod Drives
 pub mod Stopping
 pub mod Over
 pub mod Noted

@@ -1,5 +1,5 @@
 -- Where a run stands, and what differs from run to run.
-use Rattle.std.specs.Prelude.{◌≡◌, ℕ, Bool, true, List, Option, Result}
+use Rattle.std.specs.Prelude.{◌≡◌, ℕ, Bool, false, true, List, Option, Result}
 use Rattle.std.specs.Io.KnownBytes.{Appends}
 use Rattle.disk_model.specs.Disk.{DiskView}
 use Rattle.session_engine.specs.World.{World}
@@ -7,7 +7,7 @@ use Rattle.session_engine.specs.Joining.{JoinRule}
 use Rattle.child_edge.specs.Faithful.{At, Relation, at}
 use Rattle.arrivals.specs.Watching.{Asked}
 use Rattle.arrivals.specs.declared.sources.Woken.{Woken}
-use Rattle.tellings.specs.Voice.{Voice}
+use Rattle.tellings.specs.Voice.{CutShort, Voice}
 use Rattle.tellings.specs.declared.note.Note.{Note}
 use Rattle.offline_programs.specs.declared.fault.RunFault.{RunFault}
 use Rattle.driver.specs.declared.turn.Turn.{Turn}
@@ -76,3 +76,8 @@ rules agenda sources sink = record { agenda = agenda; sources = sources; sink = 
 pub record Tries {K : Type 0} (R : SinkRules K) (k : K) (disk : DiskView) (text : List ℕ) (whole : Bool) (l : K) : Type 0 where
   pub tried : R.tried k disk text whole l
   pub appends : whole ≡ true → Appends (R.written k) (R.written l) text
+
+-- A text was tried, and not all of it went out. Where there was no memory for it, a beginning of it did.
+pub record TriesInVain {K : Type 0} (R : SinkRules K) (k : K) (disk : DiskView) (text : List ℕ) (why : RunFault) (l : K) : Type 0 where
+  pub tried : R.tried k disk text false l
+  pub cut : CutShort (R.written k) (R.written l) text why

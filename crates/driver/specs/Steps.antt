@@ -38,7 +38,7 @@ use Rattle.offline_programs.specs.declared.fault.RunFault.{RunFault}
 use Rattle.offline_programs.specs.declared.fault.RunFault.TheVariants as fault
 use Rattle.driver.specs.declared.turn.Turn.{Turn}
 use Rattle.driver.specs.Reports.{TurnCame, Report, interrupt_came, lines, printed_text}
-use Rattle.driver.specs.Place.{RunPlace, Rules, Tries, run_at}
+use Rattle.driver.specs.Place.{RunPlace, Rules, Tries, TriesInVain, run_at}
 use Rattle.driver.specs.Items.{Item, RunStep, after_fault, ask, broke, carried, carry, chose, print_fault, printed_fault, halt, hear, heard, heed, heeded, interrupt, interrupted, items_by, join, notes, refused_whole, rewrite, rewrote, stall, stalled, stalls, take, print, printing, printing_joined, printed, receive, received, take_alone, take_edits, taking_due, took, took_alone, watch, watched, take_whole}
 use Rattle.driver.specs.Hearing.{HeardReady}
 
@@ -118,7 +118,7 @@ pub data Fails {A C K : Type 0} (R : Rules A C K) (p : RunPlace A C K) : Item �
   -- the number of a line can't be counted: nothing is printed of it
   uncounted_line : (first : ℕ) (outcomes : List Outcome) → 2 ^ 64 ≤ first + most_together + 1 → Fails R p (print (lines first outcomes)) [] fault.InputTooLong p
   -- the sink failed, or there was no memory for the text
-  unprinted : (s : Report) (why : RunFault) (k : K) → IsWithheld R.sink.voice why → Tries R.sink p.sink p.disk (printed_text R.sink.voice p.world s) false k
+  unprinted : (s : Report) (why : RunFault) (k : K) → IsWithheld R.sink.voice why → TriesInVain R.sink p.sink p.disk (printed_text R.sink.voice p.world s) why k
       → Fails R p (print s) [] why (record p { sink = k })
 
 -- One step.

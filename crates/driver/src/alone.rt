@@ -1,17 +1,16 @@
 //! Events that are taken by themselves, and their effects.
-ghost use Rattle.std.specs.Prelude.{◌≡◌, ◌<◌, ◌∷◌, ◌++◌, [], ℕ, List, None, Option, IfOk};
+ghost use Rattle.std.specs.Prelude.{◌<◌, ◌∷◌, [], None, Option, IfOk};
 ghost use Rattle.disk_model.specs.Disk.{SameDisk};
 ghost use Rattle.session_engine.specs.World.{World};
 ghost use Rattle.session_engine.specs.Host.{IsHost};
 ghost use Rattle.child_calls.specs.Calls.{Answer};
 ghost use Rattle.child_edge.specs.Faithful.{due_of};
 ghost use Rattle.child_edge.specs.inside.Ranks.{rank, rank_of};
-ghost use Rattle.driver.specs.Place.{agenda_rules, rules, source_rules};
-ghost use Rattle.driver.specs.Items.{Item, carry as carrying, printing, receive as receiving, take_alone as taking_alone, taking_due};
-ghost use Rattle.driver.specs.Runs.{DidSteps, left_by_answer, parts, seen};
+ghost use Rattle.driver.specs.Drives.{Drives, DrivesUpTo};
+ghost use Rattle.driver.specs.Items.{carry as carrying, printing, receive as receiving, take_alone as taking_alone, taking_due};
 
 use crate::agenda::Agenda;
-use crate::driver::Driver;
+use crate::driver::{Driven, Driver};
 use crate::report::Came;
 use crate::sink::Sink;
 use arrivals::Sources;
@@ -26,11 +25,7 @@ impl<D: Disk, S: Sources, K: Sink, A: Agenda> Driver<D, S, K, A> {
     /// Takes an event by itself.
     fn take_event(&mut self, event: Event) -> Result<Outcome, RunFault>
         ensures same { SameDisk self.old.host.store.disk self.new.host.store.disk }
-        ensures did { (n : ℕ) (rest : List Item) (w : World) → IsHost self.old.host w
-            → DidSteps (rules (agenda_rules A.rules A.joins) (source_rules S.after S.wakes S.clock) K.rules)
-            (seen n w (parts self.old.host self.old.sources self.old.sink self.old.agenda))
-            (taking_alone event ∷ rest) (left_by_answer (λ o. carrying o ∷ rest)) result
-            (n, parts self.new.host self.new.sources self.new.sink self.new.agenda) }
+        ensures did { DrivesUpTo ⟦<Self as Driven>⟧.rules self.old (taking_alone event ∷ []) (λ o. carrying o ∷ []) result self.new }
         ensures less { (w : World) → IsHost self.old.host w
             → IfOk result (λ o. (a : Option Answer) → rank (due_of o.effect a) < rank_of event) }
     {
@@ -43,11 +38,7 @@ impl<D: Disk, S: Sources, K: Sink, A: Agenda> Driver<D, S, K, A> {
     /// Prints what an event gave by itself, and has the agenda heed it.
     fn print_event(&mut self, outcome: Outcome) -> Result<(), RunFault>
         ensures same { SameDisk self.old.host.store.disk self.new.host.store.disk }
-        ensures did { (n : ℕ) (rest : List Item) (w : World) → IsHost self.old.host w
-            → DidSteps (rules (agenda_rules A.rules A.joins) (source_rules S.after S.wakes S.clock) K.rules)
-            (seen n w (parts self.old.host self.old.sources self.old.sink self.old.agenda))
-            (printing None (outcome ∷ []) [] ++ rest) (left_by_answer (λ done. rest)) result
-            (n, parts self.new.host self.new.sources self.new.sink self.new.agenda) }
+        ensures did { Drives ⟦<Self as Driven>⟧.rules self.old (printing None (outcome ∷ []) []) result self.new }
     {
         if let Err(why) = self.print_lives(slice::from_ref(&outcome)) {
             return Err(why);
@@ -61,11 +52,7 @@ impl<D: Disk, S: Sources, K: Sink, A: Agenda> Driver<D, S, K, A> {
     /// Takes an event by itself, carries its effect out, and prints what it gave. The event of the fault that the call met.
     fn take_one(&mut self, event: Event) -> Result<Option<Event>, RunFault>
         ensures same { SameDisk self.old.host.store.disk self.new.host.store.disk }
-        ensures did { (n : ℕ) (rest : List Item) (w : World) → IsHost self.old.host w
-            → DidSteps (rules (agenda_rules A.rules A.joins) (source_rules S.after S.wakes S.clock) K.rules)
-            (seen n w (parts self.old.host self.old.sources self.old.sink self.old.agenda))
-            (taking_alone event ∷ rest) (left_by_answer (λ due. taking_due due ++ rest)) result
-            (n, parts self.new.host self.new.sources self.new.sink self.new.agenda) }
+        ensures did { DrivesUpTo ⟦<Self as Driven>⟧.rules self.old (taking_alone event ∷ []) taking_due result self.new }
         ensures less { (w : World) → IsHost self.old.host w → IfOk result (λ due. rank due < rank_of event) }
     {
         let outcome = match self.take_event(event) {
@@ -82,11 +69,7 @@ impl<D: Disk, S: Sources, K: Sink, A: Agenda> Driver<D, S, K, A> {
     /// Takes an event by itself, with all that comes of it: at most two events more.
     pub(crate) fn take_alone(&mut self, event: Event) -> Result<(), RunFault>
         ensures same { SameDisk self.old.host.store.disk self.new.host.store.disk }
-        ensures did { (n : ℕ) (rest : List Item) (w : World) → IsHost self.old.host w
-            → DidSteps (rules (agenda_rules A.rules A.joins) (source_rules S.after S.wakes S.clock) K.rules)
-            (seen n w (parts self.old.host self.old.sources self.old.sink self.old.agenda))
-            (taking_alone event ∷ rest) (left_by_answer (λ done. rest)) result
-            (n, parts self.new.host self.new.sources self.new.sink self.new.agenda) }
+        ensures did { Drives ⟦<Self as Driven>⟧.rules self.old (taking_alone event ∷ []) result self.new }
     {
         let mut due = Some(event);
         for _ in 0..MOST_EVENTS {
@@ -104,11 +87,7 @@ impl<D: Disk, S: Sources, K: Sink, A: Agenda> Driver<D, S, K, A> {
     /// Receives from this life, and takes what it gives by itself.
     pub(crate) fn receive(&mut self, seat: Seat) -> Result<(), RunFault>
         ensures same { SameDisk self.old.host.store.disk self.new.host.store.disk }
-        ensures did { (n : ℕ) (rest : List Item) (w : World) → IsHost self.old.host w
-            → DidSteps (rules (agenda_rules A.rules A.joins) (source_rules S.after S.wakes S.clock) K.rules)
-            (seen n w (parts self.old.host self.old.sources self.old.sink self.old.agenda))
-            (receiving seat ∷ rest) (left_by_answer (λ done. rest)) result
-            (n, parts self.new.host self.new.sources self.new.sink self.new.agenda) }
+        ensures did { Drives ⟦<Self as Driven>⟧.rules self.old (receiving seat ∷ []) result self.new }
     {
         match receive_event(&mut self.sources, seat) {
             Ok(event) => self.take_alone(event),

@@ -1,14 +1,15 @@
 //! The driver, and its loop.
-ghost use Rattle.std.specs.Prelude.{◌≡◌, ◌≤◌, ◌+◌, ◌<◌, ◌^◌, ℕ, List, [], ◌∷◌, ◌++◌, Option, Some, None, IfOk, IfSome, IsSomeAnd, length, true, false};
+ghost use Rattle.std.specs.Prelude.{◌≡◌, ◌≤◌, ◌+◌, ◌<◌, ◌^◌, ℕ, [], ◌∷◌, Option, Some, None, IfOk, IfSome, IsSomeAnd, length, true, false};
 ghost use Rattle.disk_model.specs.Disk.{SameDisk};
 ghost use Rattle.session_engine.specs.World.{World};
 ghost use Rattle.session_engine.specs.Host.{IsHost};
-ghost use Rattle.driver.specs.Place.{agenda_rules, rules, source_rules};
-ghost use Rattle.driver.specs.Items.{Item, ask, group_of, heed as heeding, hear as hearing, interrupt as interrupting, items_by, rewrite as rewriting, stall as stalling, stalls, take as taking, print as to_print, printing, watch as watching};
+ghost use Rattle.driver.specs.Place.{Rules, agenda_rules, rules, source_rules};
+ghost use Rattle.driver.specs.Drives.{Drives, DrivesUpTo, driver_parts};
+ghost use Rattle.driver.specs.Items.{ask, group_of, heed as heeding, hear as hearing, interrupt as interrupting, items_by, rewrite as rewriting, stall as stalling, stalls, take as taking, print as to_print, printing, watch as watching};
 ghost use Rattle.driver.specs.Steps.{most_together};
 ghost use Rattle.driver.specs.Reports.{came as came_by, came_of};
 ghost use Rattle.driver.specs.Reports as report;
-ghost use Rattle.driver.specs.Runs.{DidSteps, again, again_by, left_at_end, left_by_answer, parts, seen};
+ghost use Rattle.driver.specs.Runs.{DidSteps, again, again_by, left_at_end, left_by_answer, seen};
 ghost use Rattle.child_edge.specs.Seats.{waits};
 ghost use Rattle.arrivals.specs.Watching.{asked};
 
@@ -42,6 +43,27 @@ pub struct Driver<D: Disk, S, K, A> {
     pub agenda: A,
 }
 
+/// By which rules a driver goes on, for each kind of driver: `⟦<Self as Driven>⟧.rules`.
+pub trait Driven {
+    type Sources;
+
+    type Sink;
+
+    type Agenda;
+
+    ghost rules: { Rules Self.Agenda Self.Sources Self.Sink };
+}
+
+impl<D: Disk, S: Sources, K: Sink, A: Agenda> Driven for Driver<D, S, K, A> {
+    type Sources = S;
+
+    type Sink = K;
+
+    type Agenda = A;
+
+    ghost rules = { rules (agenda_rules A.rules A.joins) (source_rules S.after S.wakes S.clock) K.rules };
+}
+
 /// Whether the lines of a group can't be counted from this one on.
 pub(crate) fn is_uncounted(from: Option<u64>) -> bool
     ensures yes { result ≡ true → IsSomeAnd from (λ n. 2 ^ 64 ≤ n + most_together + 1) }
@@ -67,12 +89,7 @@ impl<D: Disk, S: Sources, K: Sink, A: Agenda> Driver<D, S, K, A> {
     /// Takes events as one group: those of lives, or of lines from this one on.
     fn take(&mut self, from: Option<u64>, events: Vec<Event>) -> Result<GaveTogether, RunFault>
         ensures same { SameDisk self.old.host.store.disk self.new.host.store.disk }
-        ensures did { (n : ℕ) (rest : List Item) (w : World) → IsHost self.old.host w
-            → DidSteps (rules (agenda_rules A.rules A.joins) (source_rules S.after S.wakes S.clock) K.rules)
-            (seen n w (parts self.old.host self.old.sources self.old.sink self.old.agenda))
-            (taking from events.items ∷ rest)
-            (left_by_answer (λ gave. printing from gave.outcomes.items gave.replies.items ++ rest)) result
-            (n, parts self.new.host self.new.sources self.new.sink self.new.agenda) }
+        ensures did { DrivesUpTo ⟦<Self as Driven>⟧.rules self.old (taking from events.items ∷ []) (λ gave. printing from gave.outcomes.items gave.replies.items) result self.new }
         ensures few { IfOk result (λ gave. length gave.outcomes.items ≤ most_together) }
         ensures counted { IfOk result (λ gave. IfSome from (λ number. number + most_together + 1 < 2 ^ 64)) }
     {
@@ -103,11 +120,7 @@ impl<D: Disk, S: Sources, K: Sink, A: Agenda> Driver<D, S, K, A> {
         requires few { length outcomes.now ≤ most_together }
         requires counted { IfSome from (λ number. number + most_together + 1 < 2 ^ 64) }
         ensures same { SameDisk self.old.host.store.disk self.new.host.store.disk }
-        ensures did { (n : ℕ) (rest : List Item) (w : World) → IsHost self.old.host w
-            → DidSteps (rules (agenda_rules A.rules A.joins) (source_rules S.after S.wakes S.clock) K.rules)
-            (seen n w (parts self.old.host self.old.sources self.old.sink self.old.agenda))
-            (to_print (group_of from outcomes.now) ∷ rest) (left_by_answer (λ done. rest)) result
-            (n, parts self.new.host self.new.sources self.new.sink self.new.agenda) }
+        ensures did { Drives ⟦<Self as Driven>⟧.rules self.old (to_print (group_of from outcomes.now) ∷ []) result self.new }
     {
         match from {
             Some(number) => self.sink.lines(&self.host, number, outcomes),
@@ -118,11 +131,7 @@ impl<D: Disk, S: Sources, K: Sink, A: Agenda> Driver<D, S, K, A> {
     /// Prints the replies to what followed effects.
     pub(crate) fn print_followed(&mut self, replies: &[Reply]) -> Result<(), RunFault>
         ensures same { SameDisk self.old.host.store.disk self.new.host.store.disk }
-        ensures did { (n : ℕ) (rest : List Item) (w : World) → IsHost self.old.host w
-            → DidSteps (rules (agenda_rules A.rules A.joins) (source_rules S.after S.wakes S.clock) K.rules)
-            (seen n w (parts self.old.host self.old.sources self.old.sink self.old.agenda))
-            (to_print (report.followed replies.now) ∷ rest) (left_by_answer (λ done. rest)) result
-            (n, parts self.new.host self.new.sources self.new.sink self.new.agenda) }
+        ensures did { Drives ⟦<Self as Driven>⟧.rules self.old (to_print (report.followed replies.now) ∷ []) result self.new }
     {
         self.sink.followed(&self.host, replies)
     }
@@ -130,11 +139,7 @@ impl<D: Disk, S: Sources, K: Sink, A: Agenda> Driver<D, S, K, A> {
     /// Shows this.
     fn show(&mut self, show: Show) -> Result<(), RunFault>
         ensures same { SameDisk self.old.host.store.disk self.new.host.store.disk }
-        ensures did { (n : ℕ) (rest : List Item) (w : World) → IsHost self.old.host w
-            → DidSteps (rules (agenda_rules A.rules A.joins) (source_rules S.after S.wakes S.clock) K.rules)
-            (seen n w (parts self.old.host self.old.sources self.old.sink self.old.agenda))
-            (to_print (report.shown show) ∷ rest) (left_by_answer (λ done. rest)) result
-            (n, parts self.new.host self.new.sources self.new.sink self.new.agenda) }
+        ensures did { Drives ⟦<Self as Driven>⟧.rules self.old (to_print (report.shown show) ∷ []) result self.new }
     {
         self.sink.show(&self.host, show)
     }
@@ -142,11 +147,7 @@ impl<D: Disk, S: Sources, K: Sink, A: Agenda> Driver<D, S, K, A> {
     /// Has the agenda heed what came, and prints what it notes of that.
     pub(crate) fn heed(&mut self, came: &Came) -> Result<(), RunFault>
         ensures same { SameDisk self.old.host.store.disk self.new.host.store.disk }
-        ensures did { (n : ℕ) (rest : List Item) (w : World) → IsHost self.old.host w
-            → DidSteps (rules (agenda_rules A.rules A.joins) (source_rules S.after S.wakes S.clock) K.rules)
-            (seen n w (parts self.old.host self.old.sources self.old.sink self.old.agenda))
-            (heeding (came_of came.now) ∷ rest) (left_by_answer (λ done. rest)) result
-            (n, parts self.new.host self.new.sources self.new.sink self.new.agenda) }
+        ensures did { Drives ⟦<Self as Driven>⟧.rules self.old (heeding (came_of came.now) ∷ []) result self.new }
     {
         let now = self.sources.now();
         match self.agenda.heed(&self.host, now, came) {
@@ -164,11 +165,7 @@ impl<D: Disk, S: Sources, K: Sink, A: Agenda> Driver<D, S, K, A> {
         requires few { length gave.outcomes.items ≤ most_together }
         requires counted { IfSome from (λ number. number + most_together + 1 < 2 ^ 64) }
         ensures same { SameDisk self.old.host.store.disk self.new.host.store.disk }
-        ensures did { (n : ℕ) (rest : List Item) (w : World) → IsHost self.old.host w
-            → DidSteps (rules (agenda_rules A.rules A.joins) (source_rules S.after S.wakes S.clock) K.rules)
-            (seen n w (parts self.old.host self.old.sources self.old.sink self.old.agenda))
-            (printing from gave.outcomes.items gave.replies.items ++ rest) (left_by_answer (λ done. rest)) result
-            (n, parts self.new.host self.new.sources self.new.sink self.new.agenda) }
+        ensures did { Drives ⟦<Self as Driven>⟧.rules self.old (printing from gave.outcomes.items gave.replies.items) result self.new }
     {
         if let Err(why) = self.print_outcomes(from, gave.outcomes.as_slice()) {
             return Err(why);
@@ -182,11 +179,7 @@ impl<D: Disk, S: Sources, K: Sink, A: Agenda> Driver<D, S, K, A> {
     /// Takes events as one group, and prints what they gave.
     fn take_and_print(&mut self, from: Option<u64>, events: Vec<Event>) -> Result<(), RunFault>
         ensures same { SameDisk self.old.host.store.disk self.new.host.store.disk }
-        ensures did { (n : ℕ) (rest : List Item) (w : World) → IsHost self.old.host w
-            → DidSteps (rules (agenda_rules A.rules A.joins) (source_rules S.after S.wakes S.clock) K.rules)
-            (seen n w (parts self.old.host self.old.sources self.old.sink self.old.agenda))
-            (taking from events.items ∷ rest) (left_by_answer (λ done. rest)) result
-            (n, parts self.new.host self.new.sources self.new.sink self.new.agenda) }
+        ensures did { Drives ⟦<Self as Driven>⟧.rules self.old (taking from events.items ∷ []) result self.new }
     {
         match self.take(from, events) {
             Ok(gave) => self.print_group(from, gave),
@@ -197,11 +190,7 @@ impl<D: Disk, S: Sources, K: Sink, A: Agenda> Driver<D, S, K, A> {
     /// Receives from this life, and from so many others at most that are ready, and takes what they have.
     fn hear(&mut self, seat: Seat, most: u64) -> Result<(), RunFault>
         ensures same { SameDisk self.old.host.store.disk self.new.host.store.disk }
-        ensures did { (n : ℕ) (rest : List Item) (w : World) → IsHost self.old.host w
-            → DidSteps (rules (agenda_rules A.rules A.joins) (source_rules S.after S.wakes S.clock) K.rules)
-            (seen n w (parts self.old.host self.old.sources self.old.sink self.old.agenda))
-            (hearing seat most ∷ rest) (left_by_answer (λ done. rest)) result
-            (n, parts self.new.host self.new.sources self.new.sink self.new.agenda) }
+        ensures did { Drives ⟦<Self as Driven>⟧.rules self.old (hearing seat most ∷ []) result self.new }
     {
         match hear_ready(self.alloc, &mut self.sources, seat, most) {
             Ok(events) => self.join_and_print(events),
@@ -213,11 +202,7 @@ impl<D: Disk, S: Sources, K: Sink, A: Agenda> Driver<D, S, K, A> {
     pub(crate) fn print_alone(&mut self, line: u64, outcome: Outcome) -> Result<(), RunFault>
         requires { line + most_together + 1 < 2 ^ 64 }
         ensures same { SameDisk self.old.host.store.disk self.new.host.store.disk }
-        ensures did { (n : ℕ) (rest : List Item) (w : World) → IsHost self.old.host w
-            → DidSteps (rules (agenda_rules A.rules A.joins) (source_rules S.after S.wakes S.clock) K.rules)
-            (seen n w (parts self.old.host self.old.sources self.old.sink self.old.agenda))
-            (printing (Some line) (outcome ∷ []) [] ++ rest) (left_by_answer (λ done. rest)) result
-            (n, parts self.new.host self.new.sources self.new.sink self.new.agenda) }
+        ensures did { Drives ⟦<Self as Driven>⟧.rules self.old (printing (Some line) (outcome ∷ []) []) result self.new }
     {
         if let Err(why) = self.print_outcomes(Some(line), slice::from_ref(&outcome)) {
             return Err(why);
@@ -231,11 +216,7 @@ impl<D: Disk, S: Sources, K: Sink, A: Agenda> Driver<D, S, K, A> {
     /// Rewrites the journal, for which this line asks.
     fn rewrite(&mut self, line: u64) -> Result<(), RunFault>
         ensures same { SameDisk self.old.host.store.disk self.new.host.store.disk }
-        ensures did { (n : ℕ) (rest : List Item) (w : World) → IsHost self.old.host w
-            → DidSteps (rules (agenda_rules A.rules A.joins) (source_rules S.after S.wakes S.clock) K.rules)
-            (seen n w (parts self.old.host self.old.sources self.old.sink self.old.agenda))
-            (rewriting line ∷ rest) (left_by_answer (λ done. rest)) result
-            (n, parts self.new.host self.new.sources self.new.sink self.new.agenda) }
+        ensures did { Drives ⟦<Self as Driven>⟧.rules self.old (rewriting line ∷ []) result self.new }
     {
         if line > MOST_COUNTED {
             return Err(RunFault::InputTooLong);
@@ -249,11 +230,7 @@ impl<D: Disk, S: Sources, K: Sink, A: Agenda> Driver<D, S, K, A> {
     /// Takes that each life in which an item waits has stalled.
     fn stall(&mut self) -> Result<(), RunFault>
         ensures same { SameDisk self.old.host.store.disk self.new.host.store.disk }
-        ensures did { (n : ℕ) (rest : List Item) (w : World) → IsHost self.old.host w
-            → DidSteps (rules (agenda_rules A.rules A.joins) (source_rules S.after S.wakes S.clock) K.rules)
-            (seen n w (parts self.old.host self.old.sources self.old.sink self.old.agenda))
-            (stalling ∷ rest) (left_by_answer (λ done. rest)) result
-            (n, parts self.new.host self.new.sources self.new.sink self.new.agenda) }
+        ensures did { Drives ⟦<Self as Driven>⟧.rules self.old (stalling ∷ []) result self.new }
     {
         let Ok(seats) = waiting_lives(self.alloc, &self.host) else {
             return Err(RunFault::OutOfMemory);
@@ -267,11 +244,7 @@ impl<D: Disk, S: Sources, K: Sink, A: Agenda> Driver<D, S, K, A> {
     /// Interrupts the interpreter of this session.
     fn interrupt(&mut self, name: Name) -> Result<(), RunFault>
         ensures same { SameDisk self.old.host.store.disk self.new.host.store.disk }
-        ensures did { (n : ℕ) (rest : List Item) (w : World) → IsHost self.old.host w
-            → DidSteps (rules (agenda_rules A.rules A.joins) (source_rules S.after S.wakes S.clock) K.rules)
-            (seen n w (parts self.old.host self.old.sources self.old.sink self.old.agenda))
-            (interrupting name ∷ rest) (left_by_answer (λ done. rest)) result
-            (n, parts self.new.host self.new.sources self.new.sink self.new.agenda) }
+        ensures did { Drives ⟦<Self as Driven>⟧.rules self.old (interrupting name ∷ []) result self.new }
     {
         let result = interrupt(&self.host, &mut self.sources, name);
         self.heed(&Came::Interrupted(result))
@@ -280,11 +253,7 @@ impl<D: Disk, S: Sources, K: Sink, A: Agenda> Driver<D, S, K, A> {
     /// Watches the sources, and gives the agenda whose turn it is.
     fn watch(&mut self, input: Input, patience: Option<u64>) -> Result<(), RunFault>
         ensures same { SameDisk self.old.host.store.disk self.new.host.store.disk }
-        ensures did { (n : ℕ) (rest : List Item) (w : World) → IsHost self.old.host w
-            → DidSteps (rules (agenda_rules A.rules A.joins) (source_rules S.after S.wakes S.clock) K.rules)
-            (seen n w (parts self.old.host self.old.sources self.old.sink self.old.agenda))
-            (watching (asked input patience) ∷ rest) (left_by_answer (λ done. rest)) result
-            (n, parts self.new.host self.new.sources self.new.sink self.new.agenda) }
+        ensures did { Drives ⟦<Self as Driven>⟧.rules self.old (watching (asked input patience) ∷ []) result self.new }
     {
         match self.sources.watch(input, patience) {
             Ok(woken) => {
@@ -298,11 +267,7 @@ impl<D: Disk, S: Sources, K: Sink, A: Agenda> Driver<D, S, K, A> {
     /// Shows this, and has the agenda heed that it was shown.
     fn show_and_heed(&mut self, show: Show) -> Result<(), RunFault>
         ensures same { SameDisk self.old.host.store.disk self.new.host.store.disk }
-        ensures did { (n : ℕ) (rest : List Item) (w : World) → IsHost self.old.host w
-            → DidSteps (rules (agenda_rules A.rules A.joins) (source_rules S.after S.wakes S.clock) K.rules)
-            (seen n w (parts self.old.host self.old.sources self.old.sink self.old.agenda))
-            (to_print (report.shown show) ∷ heeding (came_by [] []) ∷ rest) (left_by_answer (λ done. rest)) result
-            (n, parts self.new.host self.new.sources self.new.sink self.new.agenda) }
+        ensures did { Drives ⟦<Self as Driven>⟧.rules self.old (to_print (report.shown show) ∷ heeding (came_by [] []) ∷ []) result self.new }
     {
         match self.show(show) {
             Ok(()) => self.heed(&Came::Shown),
@@ -314,10 +279,9 @@ impl<D: Disk, S: Sources, K: Sink, A: Agenda> Driver<D, S, K, A> {
     fn serve(&mut self, turn: Turn) -> Result<bool, RunFault>
         ensures same { SameDisk self.old.host.store.disk self.new.host.store.disk }
         ensures did { (n : ℕ) (w : World) → IsHost self.old.host w
-            → DidSteps (rules (agenda_rules A.rules A.joins) (source_rules S.after S.wakes S.clock) K.rules)
-            (seen n w (parts self.old.host self.old.sources self.old.sink self.old.agenda))
+            → DidSteps ⟦<Self as Driven>⟧.rules (seen n w (driver_parts self.old))
             (items_by turn) (left_by_answer again) result
-            (n, parts self.new.host self.new.sources self.new.sink self.new.agenda) }
+            (n, driver_parts self.new) }
     {
         match turn {
             Turn::End => Ok(false),
@@ -340,10 +304,9 @@ impl<D: Disk, S: Sources, K: Sink, A: Agenda> Driver<D, S, K, A> {
     fn step(&mut self) -> Result<bool, RunFault>
         ensures same { SameDisk self.old.host.store.disk self.new.host.store.disk }
         ensures did { (n : ℕ) (w : World) → IsHost self.old.host w
-            → DidSteps (rules (agenda_rules A.rules A.joins) (source_rules S.after S.wakes S.clock) K.rules)
-            (seen n w (parts self.old.host self.old.sources self.old.sink self.old.agenda))
+            → DidSteps ⟦<Self as Driven>⟧.rules (seen n w (driver_parts self.old))
             (ask ∷ []) (left_by_answer again) result
-            (n + 1, parts self.new.host self.new.sources self.new.sink self.new.agenda) }
+            (n + 1, driver_parts self.new) }
     {
         let now = self.sources.now();
         match self.agenda.next(self.alloc, &self.host, now) {
@@ -356,10 +319,9 @@ impl<D: Disk, S: Sources, K: Sink, A: Agenda> Driver<D, S, K, A> {
     fn go_on(&mut self) -> Result<(), RunFault>
         ensures same { SameDisk self.old.host.store.disk self.new.host.store.disk }
         ensures did { (w : World) → IsHost self.old.host w → (n : ℕ)
-            × DidSteps (rules (agenda_rules A.rules A.joins) (source_rules S.after S.wakes S.clock) K.rules)
-            (seen 0 w (parts self.old.host self.old.sources self.old.sink self.old.agenda))
+            × DidSteps ⟦<Self as Driven>⟧.rules (seen 0 w (driver_parts self.old))
             (ask ∷ []) (left_by_answer (λ done. [])) result
-            (n, parts self.new.host self.new.sources self.new.sink self.new.agenda) }
+            (n, driver_parts self.new) }
     {
         for _ in 0..u64::MAX {
             match self.step() {
@@ -376,10 +338,9 @@ impl<D: Disk, S: Sources, K: Sink, A: Agenda> Driver<D, S, K, A> {
     pub fn drive(&mut self) -> Result<(), RunFault>
         ensures same { SameDisk self.old.host.store.disk self.new.host.store.disk }
         ensures did { (w : World) → IsHost self.old.host w → (n : ℕ)
-            × DidSteps (rules (agenda_rules A.rules A.joins) (source_rules S.after S.wakes S.clock) K.rules)
-            (seen 0 w (parts self.old.host self.old.sources self.old.sink self.old.agenda))
+            × DidSteps ⟦<Self as Driven>⟧.rules (seen 0 w (driver_parts self.old))
             (ask ∷ []) left_at_end result
-            (n, parts self.new.host self.new.sources self.new.sink self.new.agenda) }
+            (n, driver_parts self.new) }
     {
         match self.go_on() {
             Ok(()) => Ok(()),

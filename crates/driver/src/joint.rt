@@ -1,15 +1,15 @@
 //! Events of lives, and those that join them.
-ghost use Rattle.std.specs.Prelude.{◌≤◌, ◌∷◌, ℕ, List, IfOk, length};
+ghost use Rattle.std.specs.Prelude.{◌≤◌, ◌∷◌, [], ℕ, List, IfOk, length};
 ghost use Rattle.disk_model.specs.Disk.{SameDisk};
 ghost use Rattle.session_engine.specs.World.{World};
 ghost use Rattle.session_engine.specs.Host.{IsHost};
-ghost use Rattle.driver.specs.Place.{agenda_rules, rules, source_rules};
+ghost use Rattle.driver.specs.Drives.{Drives, driver_parts};
 ghost use Rattle.driver.specs.Items.{Item, join as joining, joined_lines, printing_joined};
 ghost use Rattle.driver.specs.Steps.{most_together};
-ghost use Rattle.driver.specs.Runs.{DidSteps, left_by_answer, parts, seen};
+ghost use Rattle.driver.specs.Runs.{DidSteps, left_by_answer, seen};
 
 use crate::agenda::Agenda;
-use crate::driver::{Driver, MOST_COUNTED};
+use crate::driver::{Driven, Driver, MOST_COUNTED};
 use crate::faults::gate_fault;
 use crate::report::Came;
 use crate::sink::Sink;
@@ -24,11 +24,10 @@ impl<D: Disk, S: Sources, K: Sink, A: Agenda> Driver<D, S, K, A> {
     fn join(&mut self, events: Vec<Event>) -> Result<GaveJoined, RunFault>
         ensures same { SameDisk self.old.host.store.disk self.new.host.store.disk }
         ensures did { (n : ℕ) (rest : List Item) (w : World) → IsHost self.old.host w
-            → DidSteps (rules (agenda_rules A.rules A.joins) (source_rules S.after S.wakes S.clock) K.rules)
-            (seen n w (parts self.old.host self.old.sources self.old.sink self.old.agenda))
+            → DidSteps ⟦<Self as Driven>⟧.rules (seen n w (driver_parts self.old))
             (joining events.items ∷ rest)
             (left_by_answer (λ gave. printing_joined gave.first gave.outcomes.items gave.later.items gave.replies.items rest)) result
-            (n, parts self.new.host self.new.sources self.new.sink self.new.agenda) }
+            (n, driver_parts self.new) }
         ensures few { IfOk result (λ gave. (length gave.outcomes.items ≤ most_together) × (length gave.later.items ≤ most_together)) }
     {
         if events.len() > MOST_TOGETHER {
@@ -51,10 +50,9 @@ impl<D: Disk, S: Sources, K: Sink, A: Agenda> Driver<D, S, K, A> {
         requires few { length later.now ≤ most_together }
         ensures same { SameDisk self.old.host.store.disk self.new.host.store.disk }
         ensures did { (n : ℕ) (rest : List Item) (w : World) → IsHost self.old.host w
-            → DidSteps (rules (agenda_rules A.rules A.joins) (source_rules S.after S.wakes S.clock) K.rules)
-            (seen n w (parts self.old.host self.old.sources self.old.sink self.old.agenda))
+            → DidSteps ⟦<Self as Driven>⟧.rules (seen n w (driver_parts self.old))
             (joined_lines first later.now rest) (left_by_answer (λ done. rest)) result
-            (n, parts self.new.host self.new.sources self.new.sink self.new.agenda) }
+            (n, driver_parts self.new) }
     {
         match first {
             None => Ok(()),
@@ -72,10 +70,9 @@ impl<D: Disk, S: Sources, K: Sink, A: Agenda> Driver<D, S, K, A> {
         requires few { (length gave.outcomes.items ≤ most_together) × (length gave.later.items ≤ most_together) }
         ensures same { SameDisk self.old.host.store.disk self.new.host.store.disk }
         ensures did { (n : ℕ) (rest : List Item) (w : World) → IsHost self.old.host w
-            → DidSteps (rules (agenda_rules A.rules A.joins) (source_rules S.after S.wakes S.clock) K.rules)
-            (seen n w (parts self.old.host self.old.sources self.old.sink self.old.agenda))
+            → DidSteps ⟦<Self as Driven>⟧.rules (seen n w (driver_parts self.old))
             (printing_joined gave.first gave.outcomes.items gave.later.items gave.replies.items rest) (left_by_answer (λ done. rest)) result
-            (n, parts self.new.host self.new.sources self.new.sink self.new.agenda) }
+            (n, driver_parts self.new) }
     {
         if let Err(why) = self.print_outcomes(None, gave.outcomes.as_slice()) {
             return Err(why);
@@ -92,11 +89,7 @@ impl<D: Disk, S: Sources, K: Sink, A: Agenda> Driver<D, S, K, A> {
     /// Takes events of lives with those that join them, and prints what they gave.
     pub(crate) fn join_and_print(&mut self, events: Vec<Event>) -> Result<(), RunFault>
         ensures same { SameDisk self.old.host.store.disk self.new.host.store.disk }
-        ensures did { (n : ℕ) (rest : List Item) (w : World) → IsHost self.old.host w
-            → DidSteps (rules (agenda_rules A.rules A.joins) (source_rules S.after S.wakes S.clock) K.rules)
-            (seen n w (parts self.old.host self.old.sources self.old.sink self.old.agenda))
-            (joining events.items ∷ rest) (left_by_answer (λ done. rest)) result
-            (n, parts self.new.host self.new.sources self.new.sink self.new.agenda) }
+        ensures did { Drives ⟦<Self as Driven>⟧.rules self.old (joining events.items ∷ []) result self.new }
     {
         match self.join(events) {
             Ok(gave) => self.print_all(gave),

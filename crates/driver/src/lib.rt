@@ -22,7 +22,7 @@ pub mod voiced;
 mod whole;
 
 pub use agenda::Agenda;
-pub use driver::{Driver, MOST_COUNTED};
+pub use driver::{Driven, Driver, MOST_COUNTED};
 pub use noting::Noting;
 pub use over::{Over, run_over};
 pub use report::{Came, Show};

@@ -8,7 +8,7 @@ use std::io::{BufWriter, Write};
 ///
 /// Bytes don't say when they were written. So a call that does nothing is made before each text. Its relation says which bytes the
 /// stream held then, and in which state the disk was. Each byte after these was written later. Code that is generic over the stream has
-/// the relation by that call alone. The relations of the streams below hold of everything, since nobody can say what a real one does.
+/// the relation by that call alone. A stamp leaves no trace in its stream, so the relations of the streams below hold of everything.
 pub trait Stamped: Write {
     ghost use Rattle.std.specs.Prelude.{List, Option, ℕ};
     ghost use Rattle.disk_model.specs.Disk.{DiskView};

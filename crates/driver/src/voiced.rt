@@ -3,7 +3,7 @@ ghost use Rattle.std.specs.Prelude.{IfErr, OnOk};
 ghost use Rattle.std.specs.Io.KnownBytes.{Appends};
 ghost use Rattle.session_engine.specs.World.{World};
 ghost use Rattle.session_engine.specs.Host.{IsHost};
-ghost use Rattle.tellings.specs.Voice.{IsWithheld, lives_text};
+ghost use Rattle.tellings.specs.Voice.{CutShort, IsWithheld, lives_text};
 ghost use Rattle.child_edge.specs.Reported.{spoken};
 ghost use Rattle.driver.specs.Reports.{lives_report};
 
@@ -35,6 +35,8 @@ fn print_life<D: Disk, T: Tells, W: Write>(
     ensures ok { (w : World) → IsHost host.now w → OnOk result (Appends (W.contents writer.old) (W.contents writer.new)
         (lives_text T.voice w (spoken outcome.now.reply))) }
     ensures err { IfErr result (IsWithheld T.voice) }
+    ensures cut { (w : World) → IsHost host.now w → IfErr result (CutShort (W.contents writer.old) (W.contents writer.new)
+        (lives_text T.voice w (spoken outcome.now.reply))) }
 {
     match &outcome.reply {
         Reply::Nothing => Ok(()),
@@ -52,6 +54,8 @@ fn print_lives<D: Disk, T: Tells, W: Write>(
     ensures ok { (w : World) → IsHost host.now w → OnOk result (Appends (W.contents writer.old) (W.contents writer.new)
         (lives_report T.voice w outcomes.now)) }
     ensures err { IfErr result (IsWithheld T.voice) }
+    ensures cut { (w : World) → IsHost host.now w → IfErr result (CutShort (W.contents writer.old) (W.contents writer.new)
+        (lives_report T.voice w outcomes.now)) }
 {
     for outcome in outcomes {
         if let Err(fault) = print_life(host, outcome, tells, writer) {

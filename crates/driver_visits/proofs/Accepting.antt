@@ -15,8 +15,7 @@ use Rattle.offline_programs.specs.declared.fault.RunFault.TheVariants as fault
 use Rattle.check_report.specs.declared.chosen.Chosen.{Chosen}
 use Rattle.check_report.specs.declared.report.Format.TheVariants as format
 use Rattle.check_report.specs.declared.verdict.Counts.{Counts}
-use Rattle.check_report.specs.Reports.{Case, closing_text, judgements_of, report_front}
-use Rattle.check_report.specs.Verdicts.{counts_of}
+use Rattle.check_report.specs.Reports.{Case, report_front}
 use Rattle.sheet_check.specs.Accept as ends
 use Rattle.sheet_check.specs.Accept.{AcceptAnswer, AcceptLeft, FoundOn, SheetAccepts, accepted, filing, opened, to_accept, unopened}
 use Rattle.sheet_check.specs.Check.{passage}
@@ -98,19 +97,19 @@ module _ (disk back : DiskView) (model : IsTrue disk.keeps_model) (sheet : Conte
 
   module _ {C : Type 0} (o : Way C) (chosen : Chosen) (c d : C) (a b : Option (List ℕ)) where
     -- the report of these cases was written, and nothing after it
-    wrote-front : (cases : List Case) (answer : Result Counts CheckFault) → Appends a b (report_front format.Accepting cases) → LeftByAcceptance disk back (accepted cases)
-        → ReportedAcceptance a b disk back answer
-    wrote-front cases answer wrote left = record {
+    wrote-front : (cases : List Case) (why : CheckFault) → Appends a b (report_front format.Accepting cases) → LeftByAcceptance disk back (accepted cases)
+        → ReportedAcceptance a b disk back (Err why)
+    wrote-front cases why wrote left = record {
       cases = cases;
-      wrote = λ written. ([], subst (Appends a b) (sym (append-nil (report_front format.Accepting cases))) wrote);
+      wrote = λ written. subst (Appends a b) (sym (append-nil (report_front format.Accepting cases))) wrote;
       left = left;
     }
 
     broke-off : (why : RunFault) → AcceptLeft (to_accept o chosen) sheet (passage c d a b) (filing ops now back) why → ReportedAcceptance a b disk back (Err (checks.Run why))
-    broke-off why (ends.halted cases led wrote holds) = wrote-front cases (Err (checks.Run why)) wrote (all-left (accepted cases) holds)
-    broke-off why (ends.unremembered cases is led wrote holds) = wrote-front cases (Err (checks.Run why)) wrote (all-left (accepted cases) holds)
-    broke-off why (ends.full cases last one is led taken wrote holds place) = wrote-front cases (Err (checks.Run why)) wrote (all-left (accepted cases) holds)
-    broke-off why (ends.broken cases last one is led taken wrote holds) = wrote-front cases (Err (checks.Run why)) wrote (but-left (accepted cases) one holds)
+    broke-off why (ends.halted cases led wrote holds) = wrote-front cases (checks.Run why) wrote (all-left (accepted cases) holds)
+    broke-off why (ends.unremembered cases is led wrote holds) = wrote-front cases (checks.Run why) wrote (all-left (accepted cases) holds)
+    broke-off why (ends.full cases last one is led taken wrote holds place) = wrote-front cases (checks.Run why) wrote (all-left (accepted cases) holds)
+    broke-off why (ends.broken cases last one is led taken wrote holds) = wrote-front cases (checks.Run why) wrote (but-left (accepted cases) one holds)
     broke-off why (ends.unwritten cases is led holds) = record {
       cases = cases;
       wrote = λ written. absurd (written (ap (λ (x : RunFault). Err (checks.Run x)) is));
@@ -121,20 +120,21 @@ module _ (disk back : DiskView) (model : IsTrue disk.keeps_model) (sheet : Conte
         → SheetAccepts (to_accept o chosen) sheet (passage c d a b) nothing (filing ops now back) counted → ReportedAcceptance a b disk back (answer_as counted)
     came nothing unwritten (Ok counts) (checked, holds) = record {
       cases = checked.cases;
-      wrote = λ written. (closing_text format.Accepting (counts_of (judgements_of checked.cases)), checked.wrote);
+      wrote = λ written. checked.wrote;
       left = all-left (accepted checked.cases) holds;
     }
-    came nothing unwritten (Err why) (inl (is, none, holds)) = wrote-front [] (Err (checks.Run why)) (unwritten none) (all-left [] holds)
+    came nothing unwritten (Err why) (inl (is, none, holds)) = wrote-front [] (checks.Run why) (unwritten none) (all-left [] holds)
     came nothing unwritten (Err why) (inr left) = broke-off why left
 
     pub named : (nothing : Type 0) → (nothing → Appends a b []) → (missing : Option ℕ) (answer : Result Counts CheckFault)
         → ByNames missing (nothing × (back ≡ now)) (SheetAccepts (to_accept o chosen) sheet (passage c d a b) nothing (filing ops now back)) answer → ReportedAcceptance a b disk back answer
-    named nothing unwritten missing answer (no_field id there is (none, same)) = wrote-front [] answer (unwritten none) (none-left same)
+    named nothing unwritten missing answer (no_field id there is (none, same)) =
+        subst (ReportedAcceptance a b disk back) (sym is) (wrote-front [] (checks.NoField id) (unwritten none) (none-left same))
     named nothing unwritten missing answer (all_named counted there is came_so) = subst (ReportedAcceptance a b disk back) (sym is) (came nothing unwritten counted came_so)
 
 pub acceptance_filed : {C : Type 0} (o : Way C) (chosen : Chosen) (disk back : DiskView) (c d : C) (a b : Option (List ℕ)) (nothing : Type 0) → (nothing → Appends a b []) → (answer : Result Counts CheckFault)
     → IsTrue disk.keeps_model → AcceptAnswer (to_accept o chosen) disk back (passage c d a b) nothing answer → ReportedAcceptance a b disk back answer
 acceptance_filed o chosen disk back c d a b nothing unwritten answer model (unopened why is none reason reads) =
-    record { cases = []; wrote = λ written. ([], unwritten none); left = only_read reads }
+    subst (ReportedAcceptance a b disk back) (sym is) (record { cases = []; wrote = λ written. unwritten none; left = only_read reads })
 acceptance_filed o chosen disk back c d a b nothing unwritten answer model (opened sheet ops now found by_names) =
     named disk back model sheet ops now found o chosen c d a b nothing unwritten (missing_named chosen sheet.fields) answer by_names

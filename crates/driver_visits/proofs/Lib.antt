@@ -1,4 +1,3 @@
 pub mod Accepting
 pub mod Parts
-pub mod Reaching
 pub mod Visiting

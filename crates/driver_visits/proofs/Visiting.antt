@@ -21,9 +21,9 @@ use Rattle.driver.specs.Laws.{trace}
 use Rattle.driver.specs.Runs.{left_at_end}
 use Rattle.driver.specs.Over.{ProgramParts, RanOver, first_place}
 use Rattle.driver.proofs.Courses.{events_append, runs_on}
+use Rattle.driver.proofs.Order.{printed_there}
 use Rattle.driver_visits.specs.Visits.{DurableAt, EndsAsVisit, turn_of}
 use Rattle.driver_visits.proofs.Parts.{Parted, parted, parted_after, parted_as}
-use Rattle.driver_visits.proofs.Reaching.{reached}
 
 module _ {A C K : Type 0} (R : Rules A C K) (first last : ProgramParts A C K) (answer : Result (Unit {0}) RunFault) (it : RanOver R first last answer) (model : IsTrue first.disk.keeps_model) where
   abbrev start : World
@@ -74,7 +74,7 @@ module _ {A C K : Type 0} (R : Rules A C K) (first last : ProgramParts A C K) (a
 
   pub durable_at : (before after : List RunStep) (r : Report) → it.steps ≡ before ++ printed r ∷ after → DurableAt R first last answer it before r
   durable_at before after r is =
-      let so = reached R (first_place first it.opened) at_end (ask ∷ []) (left_at_end answer) before after r
+      let so = printed_there R (first_place first it.opened) at_end (ask ∷ []) (left_at_end answer) before after r
       (subst (λ (x : List RunStep). Run R (first_place first it.opened) (ask ∷ []) x (left_at_end answer) at_end) is it.ran) in
       let there = so.there in
       let tail = parted R (record there { sink = so.sink }) at_end so.then_to_do (left_at_end answer) after so.goes_on in

@@ -1,6 +1,6 @@
 -- What `check --accept` leaves of a worksheet's disk is an acceptance of the theorem, of the answers that its report has.
 -- (docs/trust/THEOREM.md; premise A7 in the README of crate `theorem`.)
-use Rattle.std.specs.Prelude.{◌≡◌, ℕ, IsTrue, List, [], ◌++◌, Option, Result, Err}
+use Rattle.std.specs.Prelude.{◌≡◌, ℕ, IsTrue, List, [], ◌++◌, Option, Result, Ok, Err}
 use Rattle.std.specs.Io.KnownBytes.{Appends}
 use Rattle.disk_model.specs.Disk.{DiskView, InModel, Leaves, bytes_on}
 use Rattle.worksheet.specs.declared.op.Op.{Op}
@@ -9,7 +9,8 @@ use Rattle.offline_programs.specs.declared.fault.RunFault.TheVariants as fault
 use Rattle.check_report.specs.declared.chosen.Chosen.{Chosen}
 use Rattle.check_report.specs.declared.report.Format.TheVariants as format
 use Rattle.check_report.specs.declared.verdict.Counts.{Counts}
-use Rattle.check_report.specs.Reports.{Case, report_front}
+use Rattle.check_report.specs.Reports.{Case, closing_text, judgements_of, report_front}
+use Rattle.check_report.specs.Verdicts.{counts_of}
 use Rattle.sheet_check.specs.Accept.{AcceptAnswer, accepted, to_accept}
 use Rattle.sheet_check.specs.Check.{OnlyRead, passage}
 use Rattle.sheet_check.specs.Evaluated.{Way}
@@ -23,11 +24,16 @@ pub data LeftByAcceptance (disk back : DiskView) : List Op → Type 0 where
   put_in : {reported : List Op} (ops put : List Op) → (f : Files (bytes_on disk) disk ops put back)
       → InModel f.now (Leaves (HasFirst ops put reported) back.history.now) → LeftByAcceptance disk back reported
 
--- An acceptance reported these cases, of which it had put in the answers that it accepts. What it wrote begins with the report of them, but where
+-- what stands after the report of these cases: their counts, and nothing where it ended by a fault
+abbrev pub closing_after : List Case → Result Counts CheckFault → List ℕ
+closing_after cases (Ok counts) = closing_text format.Accepting (counts_of (judgements_of cases))
+closing_after cases (Err why) = []
+
+-- An acceptance reported these cases, of which it had put in the answers that it accepts. What it wrote is the report of them and no more, but where
 -- its output failed.
 pub record ReportedAcceptance (text written : Option (List ℕ)) (disk back : DiskView) (answer : Result Counts CheckFault) : Type 0 where
   pub cases : List Case
-  pub wrote : (answer ≡ Err (checks.Run fault.Output) → ⊥) → (rest : List ℕ) × Appends text written (report_front format.Accepting cases ++ rest)
+  pub wrote : (answer ≡ Err (checks.Run fault.Output) → ⊥) → Appends text written (report_front format.Accepting cases ++ closing_after cases answer)
   pub left : LeftByAcceptance disk back (accepted cases)
 
 -- Whatever `check --accept` answers, by its contract, on a disk that keeps the model, is one. Writers hold the bytes that `contents` has of them.

@@ -1,4 +1,5 @@
 pub mod Meaning
+pub mod Changes
 pub mod InRounds
 pub mod Together
 pub mod Looking

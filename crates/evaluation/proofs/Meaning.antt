@@ -4,7 +4,6 @@ use Rattle.std.specs.Prelude.{cond}
 use Rattle.std.specs.List.{filter}
 use Rattle.std.proofs.lemmas.Bool.{cases_lt}
 use Rattle.worksheet.specs.declared.field.Field.{Field}
-use Rattle.worksheet.specs.declared.field.Session.{Session}
 use Rattle.worksheet.specs.Contents.{Contents}
 use Rattle.evaluation.specs.declared.lasts.Last.{Last}
 use Rattle.evaluation.specs.declared.plan.Plan.{Plan}
@@ -23,8 +22,8 @@ asked_left (which.From id) false left = fields_from id left
 abbrev pub ids_of : (Field → Bool) → List Field → List ℕ
 ids_of test fields = map (λ field. field.id) (filter test fields)
 
-abbrev pub meant_left : Plan → List Session → Bool → List Field → List ℕ
-meant_left plan sessions before left = ids_of (is_meant plan sessions) (asked_left plan.which before left)
+abbrev pub meant_left : Plan → Contents → Bool → List Field → List ℕ
+meant_left plan sheet before left = ids_of (is_meant plan sheet) (asked_left plan.which before left)
 
 all_left : (which : Which) (fields : List Field) → asked_left which false fields ≡ asked_for which fields
 all_left which.All fields = refl
@@ -59,30 +58,30 @@ one_left (which.From id) false test field others = begun (field.id == id) id tes
 
 -- the numbers of a front of the fields, of which the last one is asked for or isn't, and these fields are to come
 pub record MeantSoFar (plan : Plan) (sheet : Contents) (left : List Field) (before : Bool) (ids : List ℕ) : Type 0 where
-  pub whole : ids ++ meant_left plan sheet.sessions before left ≡ meant_in plan sheet
+  pub whole : ids ++ meant_left plan sheet before left ≡ meant_in plan sheet
 
 pub none_meant : (plan : Plan) (sheet : Contents) (left : List Field) (before : Bool) (ids : List ℕ) → ids ≡ [] → left ≡ sheet.fields → before ≡ false → MeantSoFar plan sheet left before ids
 none_meant plan sheet left before ids none e not_yet = record {
-  whole = ap (λ (x : List ℕ). x ++ meant_left plan sheet.sessions before left) none ∙ ap (λ (b : Bool). meant_left plan sheet.sessions b left) not_yet
-      ∙ ap (λ (fields : List Field). meant_left plan sheet.sessions false fields) e ∙ ap (ids_of (is_meant plan sheet.sessions)) (all_left plan.which sheet.fields);
+  whole = ap (λ (x : List ℕ). x ++ meant_left plan sheet before left) none ∙ ap (λ (b : Bool). meant_left plan sheet b left) not_yet
+      ∙ ap (λ (fields : List Field). meant_left plan sheet false fields) e ∙ ap (ids_of (is_meant plan sheet)) (all_left plan.which sheet.fields);
 }
 
 pub more_meant : (plan : Plan) (sheet : Contents) (left : List Field) (before after : Bool) (field : Field) (others : List Field) (ids more : List ℕ) → left ≡ field ∷ others → MeantSoFar plan sheet left before ids
-    → after ≡ is_asked_for plan.which before field → more ≡ ids ++ id_if (after && is_meant plan sheet.sessions field) field.id → MeantSoFar plan sheet others after more
+    → after ≡ is_asked_for plan.which before field → more ≡ ids ++ id_if (after && is_meant plan sheet field) field.id → MeantSoFar plan sheet others after more
 more_meant plan sheet left before after field others ids more e so goes is =
-    let test : Field → Bool = is_meant plan sheet.sessions in
+    let test : Field → Bool = is_meant plan sheet in
     let put : Bool → List ℕ = λ b. id_if (b && test field) field.id in
     let one = one_left plan.which before test field others in
     record {
-      whole = ap (λ (x : List ℕ). x ++ meant_left plan sheet.sessions after others) is ∙ append_assoc ids (put after) (meant_left plan sheet.sessions after others)
-          ∙ ap (λ (b : Bool). ids ++ (put b ++ meant_left plan sheet.sessions b others)) goes
-          ∙ ap (λ (x : List ℕ). ids ++ x) (sym one) ∙ ap (λ (fields : List Field). ids ++ meant_left plan sheet.sessions before fields) (sym e) ∙ so.whole;
+      whole = ap (λ (x : List ℕ). x ++ meant_left plan sheet after others) is ∙ append_assoc ids (put after) (meant_left plan sheet after others)
+          ∙ ap (λ (b : Bool). ids ++ (put b ++ meant_left plan sheet b others)) goes
+          ∙ ap (λ (x : List ℕ). ids ++ x) (sym one) ∙ ap (λ (fields : List Field). ids ++ meant_left plan sheet before fields) (sym e) ∙ so.whole;
     }
 
 pub all_meant : (plan : Plan) (sheet : Contents) (left : List Field) (before : Bool) (ids : List ℕ) → left ≡ [] → MeantSoFar plan sheet left before ids → ids ≡ meant_in plan sheet
 all_meant plan sheet left before ids e so =
-    sym (append-nil ids) ∙ ap (λ (fields : List Field). ids ++ ids_of (is_meant plan sheet.sessions) fields) (sym (none_left plan.which before))
-    ∙ ap (λ (fields : List Field). ids ++ meant_left plan sheet.sessions before fields) (sym e) ∙ so.whole
+    sym (append-nil ids) ∙ ap (λ (fields : List Field). ids ++ ids_of (is_meant plan sheet) fields) (sym (none_left plan.which before))
+    ∙ ap (λ (fields : List Field). ids ++ meant_left plan sheet before fields) (sym e) ∙ so.whole
 
 pub ruleset meant_steps = (none_meant, more_meant, all_meant)
 

@@ -7,12 +7,14 @@ use Rattle.worksheet.specs.Contents.{Contents}
 use Rattle.worksheet.specs.declared.field.Answer.{Answer}
 use Rattle.worksheet.specs.declared.field.Field.{Field}
 use Rattle.worksheet.specs.declared.field.Session.{Session}
-use Rattle.check_report.specs.Errors.{tells_error}
+use Rattle.check_report.specs.Errors.{brings_error, tells_error}
 use Rattle.tellings.specs.declared.note.Counts.{Counts}
 use Rattle.tellings.specs.declared.note.Overs.{Overs}
 use Rattle.evaluation.specs.Lasts.{last_asked}
 use Rattle.evaluation.specs.declared.lasts.Last.{Last}
 use Rattle.evaluation.specs.declared.plan.Plan.{Plan}
+use Rattle.evaluation.specs.declared.plan.Spared.{Spared}
+use Rattle.evaluation.specs.declared.plan.Spared.TheVariants as spared
 use Rattle.evaluation.specs.declared.plan.Stand.{Stand}
 use Rattle.evaluation.specs.declared.plan.Which.{Which}
 use Rattle.evaluation.specs.declared.plan.Which.TheVariants as which
@@ -20,6 +22,10 @@ use Rattle.evaluation.specs.declared.plan.Which.TheVariants as which
 -- Whether a field shows an answer.
 abbrev pub is_answered : Field → Bool
 is_answered field = is_some field.answer
+
+-- Whether it shows an answer that is an error.
+abbrev pub shows_error : Field → Bool
+shows_error field = brings_error field.answer
 
 -- one of these numbers is that of this field
 abbrev pub is_one_of : List ℕ → Field → Bool
@@ -57,13 +63,28 @@ are_named which.All = false
 are_named (which.Named ids) = true
 are_named (which.From id) = false
 
--- Whether a field that is asked for is to be evaluated. Prose is where its number is named.
-abbrev pub is_meant : Plan → List Session → Field → Bool
-is_meant plan sessions field = not (plan.unanswered && is_answered field) && (are_named plan.which || not (is_prose sessions field))
+-- a field lacks an answer: it shows none, and isn't prose
+abbrev pub is_lacking : List Session → Field → Bool
+is_lacking sessions field = not (is_answered field) && not (is_prose sessions field)
+
+-- Whether a session is changed: a field of it lacks an answer, as one does whose line was changed.
+abbrev pub is_changed : Contents → List ℕ → Bool
+is_changed sheet session = list_any (λ field. is_lacking sheet.sessions field && bytes_eq field.session session) sheet.fields
+
+-- Whether a field that is asked for is spared, so that it keeps what it shows: none is, those are that show an answer, or those of sessions that
+-- aren't changed.
+abbrev pub is_spared : Spared → Contents → Field → Bool
+is_spared spared.Nothing sheet field = false
+is_spared spared.Answered sheet field = is_answered field
+is_spared spared.Unchanged sheet field = not (is_changed sheet field.session)
+
+-- Whether a field that is asked for is to be evaluated: it isn't spared, and isn't prose, but where its number is named.
+abbrev pub is_meant : Plan → Contents → Field → Bool
+is_meant plan sheet field = not (is_spared plan.spared sheet field) && (are_named plan.which || not (is_prose sheet.sessions field))
 
 -- The numbers of the fields that are to be evaluated, each once, in the worksheet's order.
 abbrev pub meant_in : Plan → Contents → List ℕ
-meant_in plan sheet = map (λ field. field.id) (filter (is_meant plan sheet.sessions) (asked_for plan.which sheet.fields))
+meant_in plan sheet = map (λ field. field.id) (filter (is_meant plan sheet) (asked_for plan.which sheet.fields))
 
 -- no field has this number
 abbrev pub is_missing : List Field → ℕ → Bool
@@ -165,10 +186,11 @@ counts_overs plan passed = is_some plan.limit || (not plan.strict && nat_lt 0 pa
 abbrev pub overs_by : Plan → ℕ → Stand → Option Overs
 overs_by plan all stand = if counts_overs plan (all - stand.asked) then Some (record { over = stand.overs; passed = all - stand.asked }) else None
 
--- How many of a worksheet's fields show an answer, how many don't and aren't prose, and how many were over or passed over.
+-- How many of a worksheet's fields show an answer, how many lack one, how many show an error, and how many were over or passed over.
 abbrev pub evaluation_counts : Plan → ℕ → Contents → Stand → Counts
 evaluation_counts plan all sheet stand = record {
   answered = count_by is_answered sheet.fields;
-  unanswered = count_by (λ field. not (is_answered field) && not (is_prose sheet.sessions field)) sheet.fields;
+  unanswered = count_by (is_lacking sheet.sessions) sheet.fields;
+  errors = count_by shows_error sheet.fields;
   overs = overs_by plan all stand;
 }

@@ -1,13 +1,14 @@
 //! Which fields are evaluated.
 ghost use Rattle.std.specs.Prelude.{◌≡◌, ◌++◌, ◌&&◌, IfOk, OnOk, find};
 ghost use Rattle.std.specs.Option.{option_copied};
+ghost use Rattle.worksheet.specs.Contents.{Contents};
 ghost use Rattle.evaluation.specs.Meant as meant;
 ghost use Rattle.evaluation.specs.inside.Choosing as choosing;
 
-use crate::plan::{Plan, Which};
+use crate::plan::{Plan, Spared, Which};
 use block_tree::Octets;
 use std::alloc::{AllocError, Global};
-use worksheet::{Field, Session, Sheet};
+use worksheet::{Field, Name, Session, Sheet};
 
 /// Whether a field shows an answer.
 pub(crate) fn is_answered(field: &Field) -> bool
@@ -71,26 +72,98 @@ fn are_named(which: &Which) -> bool
     }
 }
 
-/// Whether a field that is asked for is to be evaluated.
-fn is_meant(plan: &Plan, sheet: &Sheet, field: &Field) -> bool
-    ensures { result ≡ meant.is_meant plan.now sheet.now.contents.sessions field.now }
+/// Whether a field lacks an answer: it shows none, and isn't prose.
+pub(crate) fn is_lacking(sheet: &Sheet, field: &Field) -> bool
+    ensures { result ≡ meant.is_lacking sheet.now.contents.sessions field.now }
 {
-    !(plan.unanswered && is_answered(field)) && (are_named(&plan.which) || !is_prose(sheet, field))
+    !is_answered(field) && !is_prose(sheet, field)
 }
 
-/// Puts the number of a field after these, where it is asked for and to be evaluated.
-fn put_if_meant(
-    ids: &mut Vec<u32>,
-    plan: &Plan,
-    sheet: &Sheet,
-    asked: bool,
-    field: &Field,
-) -> Result<(), AllocError>
-    ensures { OnOk result (ids.new.items
-        ≡ ids.old.items ++ choosing.id_if (asked && meant.is_meant plan.now sheet.now.contents.sessions field.now) field.now.id) }
+/// Whether this session is one of these.
+fn is_in(sessions: &[Name], session: Name) -> bool
+    ensures { result ≡ choosing.is_in sessions.now session }
 {
-    if asked && is_meant(plan, sheet, field) {
-        ids.push(field.id)?;
+    sessions.iter().any(|one| *one == session)
+}
+
+/// Puts a session after these, where it isn't one of them.
+fn put_session(sessions: &mut Vec<Name>, session: Name) -> Result<(), AllocError>
+    ensures { OnOk result (sessions.new.items ≡ choosing.with_session sessions.old.items session) }
+{
+    if !is_in(sessions.as_slice(), session) {
+        sessions.push(session)?;
+    }
+    Ok(())
+}
+
+/// Puts the session of a field after these, where the field lacks an answer.
+fn put_if_lacking(sessions: &mut Vec<Name>, sheet: &Sheet, field: &Field) -> Result<(), AllocError>
+    ensures { OnOk result (sessions.new.items ≡ choosing.with_session_if
+        (meant.is_lacking sheet.now.contents.sessions field.now) sessions.old.items field.now.session) }
+{
+    if is_lacking(sheet, field) {
+        put_session(sessions, field.session)?;
+    }
+    Ok(())
+}
+
+/// The sessions in which a field lacks an answer.
+#[tactic(auto, using(crate::proofs::Changes::change_steps))]
+fn changed_in(alloc: Global, sheet: &Sheet) -> Result<Vec<Name>, AllocError>
+    ensures { IfOk result (λ sessions. choosing.AreChanged sheet.now.contents sessions.items) }
+{
+    let mut sessions = Vec::new(alloc);
+    let mut fields = sheet.fields();
+    while let Some(field) = fields.next() {
+        put_if_lacking(&mut sessions, sheet, field)?;
+    }
+    Ok(sessions)
+}
+
+/// The same where those of others are spared, which alone has to know them.
+fn changed_for(alloc: Global, spared: Spared, sheet: &Sheet) -> Result<Vec<Name>, AllocError>
+    ensures { IfOk result (λ sessions. choosing.AreKnown spared sheet.now.contents sessions.items) }
+{
+    match spared {
+        Spared::Nothing | Spared::Answered => Ok(Vec::new(alloc)),
+        Spared::Unchanged => changed_in(alloc, sheet),
+    }
+}
+
+/// Whether a field that is asked for isn't evaluated, where these sessions are changed.
+fn is_spared(spared: Spared, changed: &[Name], field: &Field) -> bool
+    ensures { (sheet : Contents) → choosing.AreKnown spared sheet changed.now
+        → result ≡ meant.is_spared spared sheet field.now }
+{
+    match spared {
+        Spared::Nothing => false,
+        Spared::Answered => is_answered(field),
+        Spared::Unchanged => !is_in(changed, field.session),
+    }
+}
+
+/// Whether a field that is asked for is to be evaluated, where these sessions are changed.
+fn is_meant(plan: &Plan, sheet: &Sheet, changed: &[Name], field: &Field) -> bool
+    requires { choosing.AreKnown plan.now.spared sheet.now.contents changed.now }
+    ensures { result ≡ meant.is_meant plan.now sheet.now.contents field.now }
+{
+    !is_spared(plan.spared, changed, field) && (are_named(&plan.which) || !is_prose(sheet, field))
+}
+
+/// Whether a field is to be evaluated, which is asked for or isn't, where these sessions are changed.
+fn is_chosen(plan: &Plan, sheet: &Sheet, changed: &[Name], asked: bool, field: &Field) -> bool
+    requires { choosing.AreKnown plan.now.spared sheet.now.contents changed.now }
+    ensures { result ≡ (asked && meant.is_meant plan.now sheet.now.contents field.now) }
+{
+    asked && is_meant(plan, sheet, changed, field)
+}
+
+/// Puts the number of a field after these, where it is chosen.
+fn put_if(ids: &mut Vec<u32>, chosen: bool, id: u32) -> Result<(), AllocError>
+    ensures { OnOk result (ids.new.items ≡ ids.old.items ++ choosing.id_if chosen id) }
+{
+    if chosen {
+        ids.push(id)?;
     }
     Ok(())
 }
@@ -100,12 +173,14 @@ fn put_if_meant(
 pub(crate) fn meant_in(alloc: Global, plan: &Plan, sheet: &Sheet) -> Result<Vec<u32>, AllocError>
     ensures { IfOk result (λ ids. ids.items ≡ meant.meant_in plan.now sheet.now.contents) }
 {
+    let changed = changed_for(alloc, plan.spared, sheet)?;
     let mut ids = Vec::new(alloc);
     let mut asked = false;
     let mut fields = sheet.fields();
     while let Some(field) = fields.next() {
         asked = is_asked_for(&plan.which, asked, field);
-        put_if_meant(&mut ids, plan, sheet, asked, field)?;
+        let chosen = is_chosen(plan, sheet, changed.as_slice(), asked, field);
+        put_if(&mut ids, chosen, field.id)?;
     }
     Ok(ids)
 }

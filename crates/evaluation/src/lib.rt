@@ -13,5 +13,5 @@ pub mod rounds;
 
 pub use fault::{EvalFault, eval_fault_text};
 pub use laws::rounds_leave_none_out;
-pub use plan::{EvalEnd, Plan, Which};
+pub use plan::{EvalEnd, Plan, Spared, Which};
 pub use programs::Programs;

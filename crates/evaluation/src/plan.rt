@@ -1,10 +1,11 @@
 //! What an evaluation is asked for, where it stands, and what it comes to.
-ghost use Rattle.std.specs.Prelude.{◌≡◌, ◌&&◌, ◌<◌, ◌^◌, length, not};
+ghost use Rattle.std.specs.Prelude.{◌≡◌, ◌<◌, ◌^◌, count_by, length};
 ghost use Rattle.evaluation.specs.Meant as meant;
 
-use crate::choosing::{is_answered, is_prose};
+use crate::choosing::{is_answered, is_lacking};
 use crate::lasts::Last;
 use block_tree::Sequence;
+use check_report::brings_error;
 use live::Hold;
 use tellings::{Counts, Overs};
 use worksheet::{Field, Sheet};
@@ -20,13 +21,24 @@ pub enum Which {
     From(u32),
 }
 
+/// Which of the fields that are asked for aren't evaluated: they keep what they show.
+#[derive(Clone, Copy, Debug, PartialEq, Eq)]
+pub enum Spared {
+    /// None of them.
+    Nothing,
+    /// Those that show an answer.
+    Answered,
+    /// Those of sessions in which each field but prose shows one, as none does whose line was changed.
+    Unchanged,
+}
+
 /// What an evaluation is asked for.
 #[derive(Debug, Drop)]
 pub struct Plan {
     /// Which fields it is asked for.
     pub which: Which,
-    /// Whether only those of them that show no answer are evaluated.
-    pub unanswered: bool,
+    /// Which of these aren't evaluated.
+    pub spared: Spared,
     /// Whether it stops after the first field whose `eval` left no item waiting, or that shows no answer.
     pub strict: bool,
     /// Whether a strict one also stops after a field whose answer is an error.
@@ -95,11 +107,33 @@ fn overs_by(plan: &Plan, all: u64, stand: &Stand) -> Option<Overs>
     }
 }
 
-/// Whether a field shows no answer and isn't prose.
-fn is_lacking(sheet: &Sheet, field: &Field) -> bool
-    ensures { result ≡ (not (meant.is_answered field.now) && not (meant.is_prose sheet.now.contents.sessions field.now)) }
+/// Whether a field shows an answer that is an error.
+fn shows_error(field: &Field) -> bool
+    ensures { result ≡ meant.shows_error field.now }
 {
-    !is_answered(field) && !is_prose(sheet, field)
+    brings_error(&field.answer)
+}
+
+/// What the fields of a worksheet show.
+struct Shown {
+    /// How many show an answer.
+    answered: usize,
+    /// How many of these an error.
+    errors: usize,
+}
+
+/// How many fields of a worksheet show an answer, and how many an error.
+fn shown_in(sheet: &Sheet) -> Shown
+    requires { length sheet.now.contents.fields < 2 ^ 31 }
+    ensures { result ≡ record {
+      answered = count_by meant.is_answered sheet.now.contents.fields;
+      errors = count_by meant.shows_error sheet.now.contents.fields;
+    } }
+{
+    Shown {
+        answered: sheet.fields().filter(|field| is_answered(field)).count(),
+        errors: sheet.fields().filter(|field| shows_error(field)).count(),
+    }
 }
 
 /// What an evaluation of so many fields came to. Prose isn't counted as unanswered.
@@ -107,12 +141,14 @@ pub fn counts_of(plan: &Plan, all: u64, sheet: &Sheet, stand: &Stand) -> Counts
     requires { length sheet.now.contents.fields < 2 ^ 31 }
     ensures { result ≡ meant.evaluation_counts plan.now all sheet.now.contents stand.now }
 {
+    let Shown { answered, errors } = shown_in(sheet);
     Counts {
-        answered: sheet.fields().filter(|field| is_answered(field)).count(),
+        answered,
         unanswered: sheet
             .fields()
             .filter(|field| is_lacking(sheet, field))
             .count(),
+        errors,
         overs: overs_by(plan, all, stand),
     }
 }

@@ -2,7 +2,7 @@
 
 ghost use Rattle.std.specs.Prelude.{◌≡◌, ◌+◌, ◌<◌, ◌^◌, IfErr, OnOk, length};
 ghost use Rattle.std.specs.Io.KnownBytes.{Appends};
-ghost use Rattle.tellings.specs.Voice.{IsWithheld, numbered_text};
+ghost use Rattle.tellings.specs.Voice.{CutShort, IsWithheld, numbered_text};
 ghost use Rattle.field_agenda.specs.FieldLines as lines;
 
 use disk_model::Disk;
@@ -39,6 +39,8 @@ fn tell_one<T: Tells, W: Write>(
     ensures ok { OnOk result (Appends (W.contents writer.old) (W.contents writer.new)
         (T.voice.reply (lines.line_of_field field) sheet.now.contents outcome.now.reply)) }
     ensures err { IfErr result (IsWithheld T.voice) }
+    ensures cut { IfErr result (CutShort (W.contents writer.old) (W.contents writer.new)
+        (T.voice.reply (lines.line_of_field field) sheet.now.contents outcome.now.reply)) }
 {
     tells.outcomes(line_of(field), sheet, slice::from_ref(outcome), writer)
 }
@@ -55,6 +57,8 @@ fn tell_each<T: Tells, W: Write>(
     ensures ok { OnOk result (Appends (W.contents writer.old) (W.contents writer.new)
         (numbered_text (lines.by_field_lines T.voice) first sheet.now.contents outcomes.now)) }
     ensures err { IfErr result (IsWithheld T.voice) }
+    ensures cut { IfErr result (CutShort (W.contents writer.old) (W.contents writer.new)
+        (numbered_text (lines.by_field_lines T.voice) first sheet.now.contents outcomes.now)) }
 {
     let mut field = first;
     for outcome in outcomes {

@@ -1,4 +1,5 @@
 pub mod ByWords
 pub mod EachChecked
 pub mod NumbersRead
+pub mod PlansRefused
 pub mod Unheld

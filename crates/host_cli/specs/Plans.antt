@@ -1,5 +1,5 @@
 -- What the words of `eval` ask for (docs/use/EVAL.md), and what those of `check` do beside its request.
-use Rattle.std.specs.Prelude.{◌≡◌, ◌&&◌, ◌||◌, ℕ, Bool, true, false, List, [], ◌∷◌, Option, Some, None, length, nat_le, nat_lt, Result, Ok, Err}
+use Rattle.std.specs.Prelude.{◌≡◌, ◌&&◌, ◌||◌, ℕ, Bool, true, false, List, [], ◌∷◌, Option, Some, None, cond, is_some, length, nat_le, nat_lt, Result, Ok, Err}
 use Rattle.std.specs.Option.{option_map}
 use Rattle.clap.specs.Words.{Text}
 use Rattle.check_report.specs.declared.report.Format.{Format}
@@ -9,6 +9,8 @@ use Rattle.command_words.specs.Asked.{EvalView}
 use Rattle.sheet_text.specs.Script.{number_written}
 use Rattle.live.specs.LiveLines.{most_seconds}
 use Rattle.evaluation.specs.declared.plan.Plan.{Plan}
+use Rattle.evaluation.specs.declared.plan.Spared.{Spared}
+use Rattle.evaluation.specs.declared.plan.Spared.TheVariants as spared
 use Rattle.evaluation.specs.declared.plan.Which.{Which}
 use Rattle.evaluation.specs.declared.plan.Which.TheVariants as which
 use Rattle.host_cli.specs.declared.plans.JobsFault.{JobsFault}
@@ -143,10 +145,29 @@ which_asked (Some from) words = from_asked from words
 abbrev pub stops_early : EvalView → Bool
 stops_early words = words.strict || words.stop_at_error
 
+-- these name fields
+abbrev pub are_some : List Text → Bool
+are_some [] = false
+are_some (word ∷ words) = true
+
+-- they choose fields by something else than `--changed`
+abbrev pub chooses_fields : EvalView → Bool
+chooses_fields words = words.unanswered || is_some words.from || are_some words.ids
+
+-- which fields keep what they show, by whether those of sessions that aren't changed do, and those that show an answer
+abbrev pub spared_by : Bool → Bool → Spared
+spared_by true unanswered = spared.Unchanged
+spared_by false true = spared.Answered
+spared_by false false = spared.Nothing
+
+-- Which of those that are asked for keep what they show. `--changed` goes with no other choice.
+abbrev pub spared_asked : EvalView → Result Spared PlanFault
+spared_asked words = cond (words.changed && chooses_fields words) (Err plans.Changed) (Ok (spared_by words.changed words.unanswered))
+
 -- The words of `eval` ask for this.
 pub record AsksPlan (words : EvalView) (plan : Plan) : Type 0 where
   pub which : which_asked words.from words.ids ≡ Ok plan.which
-  pub unanswered : plan.unanswered ≡ words.unanswered
+  pub spared : spared_asked words ≡ Ok plan.spared
   pub strict : plan.strict ≡ stops_early words
   pub at_errors : plan.at_errors ≡ words.stop_at_error
   pub limit : limit_asked words.timeout ≡ Some plan.limit
@@ -161,11 +182,17 @@ NamesTime words = (limit : Option ℕ) × (limit_asked words.timeout ≡ Some li
 abbrev pub NamesJobs : EvalView → Type 0
 NamesJobs words = NamesTime words × ((jobs : ℕ) × (jobs_asked words.jobs (stops_early words) words.timeout ≡ Ok jobs))
 
--- They ask for nothing that there is, for this reason, of which the time is the first, and how many sessions the next; or there was no memory.
+-- and which fields keep what they show
+abbrev pub NamesSpared : EvalView → Type 0
+NamesSpared words = NamesJobs words × ((spared : Spared) × (spared_asked words ≡ Ok spared))
+
+-- They ask for nothing that there is, for this reason, of which the time is the first, how many sessions the next, and then what `--changed` goes
+-- with; or there was no memory.
 abbrev pub AsksNoPlan : EvalView → PlanFault → Type 0
 AsksNoPlan words plans.Seconds = limit_asked words.timeout ≡ None
 AsksNoPlan words plans.Jobs = NamesTime words × (jobs_asked words.jobs (stops_early words) words.timeout ≡ Err plans.Jobs)
 AsksNoPlan words plans.Strict = NamesTime words × (jobs_asked words.jobs (stops_early words) words.timeout ≡ Err plans.Strict)
-AsksNoPlan words plans.Id = NamesJobs words × (which_asked words.from words.ids ≡ Err plans.Id)
-AsksNoPlan words plans.Both = NamesJobs words × (which_asked words.from words.ids ≡ Err plans.Both)
+AsksNoPlan words plans.Changed = NamesJobs words × (spared_asked words ≡ Err plans.Changed)
+AsksNoPlan words plans.Id = NamesSpared words × (which_asked words.from words.ids ≡ Err plans.Id)
+AsksNoPlan words plans.Both = NamesSpared words × (which_asked words.from words.ids ≡ Err plans.Both)
 AsksNoPlan words plans.OutOfMemory = Unit {0}

@@ -44,6 +44,10 @@ no_jobs_text = codes "error: this is no number of jobs: N is a number from 1 to 
 abbrev pub strict_jobs_text : List ℕ
 strict_jobs_text = codes "error: --jobs goes with no --strict and no --stop-at-error\n\nFor more information, try 'tmhost eval --help'.\n"
 
+-- and of `--changed` beside another choice of fields
+abbrev pub changed_alone_text : List ℕ
+changed_alone_text = codes "error: --changed goes with no ID after PATH, no --from and no --unanswered\n\nFor more information, try 'tmhost eval --help'.\n"
+
 -- what is printed of words that ask for no run, since they name no time
 abbrev pub no_run_seconds_text : List ℕ
 no_run_seconds_text = codes "error: this is no time: SECONDS is a number from 1 to 1000000\n\nFor more information, try 'tmhost run --help'.\n"
@@ -115,6 +119,7 @@ RefusesPlan plans.Id errors ending = RefusesWith no_id_text errors ending
 RefusesPlan plans.Both errors ending = RefusesWith no_both_text errors ending
 RefusesPlan plans.Jobs errors ending = RefusesWith no_jobs_text errors ending
 RefusesPlan plans.Strict errors ending = RefusesWith strict_jobs_text errors ending
+RefusesPlan plans.Changed errors ending = RefusesWith changed_alone_text errors ending
 RefusesPlan plans.OutOfMemory errors ending = (ending.status ≡ 1) × TellsFault errors ending.reported (Err fault.OutOfMemory)
 
 -- how the program ends where the words of `check` ask for none, or where there was no memory for them

@@ -49,11 +49,11 @@ use Rattle.sheet_text.specs.Script.{number_written}
 use Rattle.sheet_files.specs.declared.files_fault.FilesFault.{FilesFault}
 use Rattle.sheet_files.specs.declared.files_fault.HoldFault.{HoldFault}
 use Rattle.sheet_files.specs.declared.files_fault.MakeFault.{MakeFault}
-use Rattle.sheet_check.specs.Accept.{to_accept}
-use Rattle.sheet_check.specs.Evaluated.{one_by_one, way}
-use Rattle.sheet_check.specs.Together.{side_by_side}
 use Rattle.sheet_check.specs.declared.named.CheckFault.TheVariants as checks
 use Rattle.evaluation.specs.declared.plan.Plan.{Plan}
+use Rattle.sheet_check.specs.Evaluated.{checking_by}
+use Rattle.sheet_check.specs.Accept.{accepting_by}
+use Rattle.sheet_check.specs.Together.{together_by}
 
 abbrev pub voice_by : Bool → Voice
 voice_by true = in_json
@@ -123,12 +123,12 @@ module _ {Y D P S I W E Q : Type 0} (o : OutsideView D P S I W E) where
   -- `check` of the same, of one field after another
   abbrev pub ChecksAs : Outside Y D P S I W E Q → Outside Y D P S I W E Q → CheckEnding → Text → CheckPlan → Type 0
   ChecksAs old new end path c = (files : Result D FilesFault) × o.places.reads old.places path files new.places
-      × CheckEnds o.disks (one_by_one (way o.sources.after o.sources.clock o.sources.wakes c.request.limit) c.request.chosen c.request.format) files (calling_of old new) (streams_of old new) end
+      × CheckEnds o.disks (checking_by o.sources.after o.sources.clock o.sources.wakes c.request) files (calling_of old new) (streams_of old new) end
 
   -- the same, of fields of so many sessions side by side
   abbrev pub TogetherAs : Outside Y D P S I W E Q → Outside Y D P S I W E Q → CheckEnding → Text → CheckPlan → Type 0
   TogetherAs old new end path c = (files : Result D FilesFault) × o.places.reads old.places path files new.places
-      × TogetherEnds o.disks (side_by_side (way o.sources.after o.sources.clock o.sources.wakes c.request.limit) c.jobs c.request.chosen c.request.format) files (calling_of old new) (streams_of old new) end
+      × TogetherEnds o.disks (together_by o.sources.after o.sources.clock o.sources.wakes c.jobs c.request) files (calling_of old new) (streams_of old new) end
 
   -- the one or the other, once the places are held
   abbrev pub Compares : Outside Y D P S I W E Q → Outside Y D P S I W E Q → CheckEnding → Text → CheckPlan → Type 0
@@ -143,7 +143,7 @@ module _ {Y D P S I W E Q : Type 0} (o : OutsideView D P S I W E) where
   -- `check --accept` of what they open to write
   abbrev pub AcceptsHeld : Outside Y D P S I W E Q → Outside Y D P S I W E Q → Ending → Text → Request → Type 0
   AcceptsHeld old new ending path request = (files : Result D FilesFault) × o.places.opens old.places path files new.places
-      × AcceptEnds o.disks (to_accept (way o.sources.after o.sources.clock o.sources.wakes request.limit) request.chosen) files (calling_of old new) (streams_of old new) ending
+      × AcceptEnds o.disks (accepting_by o.sources.after o.sources.clock o.sources.wakes request) files (calling_of old new) (streams_of old new) ending
 
   abbrev pub AcceptsAs : Outside Y D P S I W E Q → Outside Y D P S I W E Q → Ending → Text → Request → Type 0
   AcceptsAs old new ending path request =

@@ -1,14 +1,14 @@
 //! What the words of `eval` ask for, and what those of `check` do beside its request.
 ghost use Rattle.std.specs.Prelude.{◌≡◌, Err, IfErr, IfOk, Ok, map, option_map, true};
 ghost use Rattle.command_words.specs.Asked.{eval_view};
-ghost use Rattle.host_cli.specs.Plans.{AsksNoPlan, AsksPlan, check_jobs_asked, check_jobs_by, from_asked, jobs_asked, jobs_by, jobs_unwritten, numbers_of_several, limit_asked, named_asked, numbers_in, several_refused, which_asked};
+ghost use Rattle.host_cli.specs.Plans.{AsksNoPlan, AsksPlan, check_jobs_asked, check_jobs_by, from_asked, jobs_asked, jobs_by, jobs_unwritten, numbers_of_several, limit_asked, named_asked, numbers_in, several_refused, spared_asked, which_asked};
 ghost use Rattle.host_cli.specs.Plans as plan;
 ghost use Rattle.host_cli.specs.inside.Reading.{IsWhy};
 
 use block_tree::{OutOfMemory, Sequence};
 use check_report::Format as Report;
 use command_words::EvalWords;
-use evaluation::{Plan, Which};
+use evaluation::{Plan, Spared, Which};
 use live::MOST_SECONDS;
 use sheet_text::read_number;
 use std::alloc::Global;
@@ -29,6 +29,8 @@ pub enum PlanFault {
     Jobs,
     /// Sessions are to go side by side, and to stop after the first field that goes wrong.
     Strict,
+    /// Those of sessions that were changed are to be evaluated, and fields are chosen otherwise, too.
+    Changed,
     /// There was no memory for them.
     OutOfMemory,
 }
@@ -246,6 +248,44 @@ fn read_which(alloc: Global, from: Option<&str>, words: &[&str]) -> Result<Which
     }
 }
 
+/// Whether the words of `eval` choose fields by something else than `--changed`.
+fn chooses_fields(words: &EvalWords<'_>) -> bool
+    ensures { result ≡ plan.chooses_fields (eval_view words.now) }
+{
+    words.unanswered || words.from.is_some() || !words.ids.is_empty()
+}
+
+/// Which fields keep what they show, where no words refuse it.
+fn spared_by(changed: bool, unanswered: bool) -> Spared
+    ensures { result ≡ plan.spared_by changed unanswered }
+{
+    if changed {
+        Spared::Unchanged
+    } else if unanswered {
+        Spared::Answered
+    } else {
+        Spared::Nothing
+    }
+}
+
+/// Which of the fields that are asked for keep what they show.
+fn read_spared(words: &EvalWords<'_>) -> Result<Spared, PlanFault>
+    ensures { result ≡ spared_asked (eval_view words.now) }
+{
+    if words.changed && chooses_fields(words) {
+        Err(PlanFault::Changed)
+    } else {
+        Ok(spared_by(words.changed, words.unanswered))
+    }
+}
+
+/// Whether an evaluation stops where something goes wrong.
+fn stops_early(words: &EvalWords<'_>) -> bool
+    ensures { result ≡ plan.stops_early (eval_view words.now) }
+{
+    words.strict || words.stop_at_error
+}
+
 /// What the words of `eval` ask for.
 pub(crate) fn read_plan(alloc: Global, words: &EvalWords<'_>) -> Result<Plan, PlanFault>
     ensures ok { IfOk result (AsksPlan (eval_view words.now)) }
@@ -254,15 +294,19 @@ pub(crate) fn read_plan(alloc: Global, words: &EvalWords<'_>) -> Result<Plan, Pl
     let Some(limit) = read_limit(words.timeout) else {
         return Err(PlanFault::Seconds);
     };
-    let strict = words.strict || words.stop_at_error;
+    let strict = stops_early(words);
     let jobs = match read_jobs(words.jobs, strict, words.timeout) {
         Ok(jobs) => jobs,
+        Err(why) => return Err(why),
+    };
+    let spared = match read_spared(words) {
+        Ok(spared) => spared,
         Err(why) => return Err(why),
     };
     match read_which(alloc, words.from, words.ids.as_slice()) {
         Ok(which) => Ok(Plan {
             which,
-            unanswered: words.unanswered,
+            spared,
             strict,
             at_errors: words.stop_at_error,
             limit,

@@ -158,6 +158,11 @@ pub(crate) fn refuse_plan<E: Says>(why: PlanFault, errors: &mut E) -> Ending
             For more information, try 'tmhost eval --help'.\n",
             errors,
         ),
+        PlanFault::Changed => refuse_with(
+            b"error: --changed goes with no ID after PATH, no --from and no --unanswered\n\n\
+            For more information, try 'tmhost eval --help'.\n",
+            errors,
+        ),
         PlanFault::OutOfMemory => end_program(Err(RunFault::OutOfMemory), errors),
     }
 }

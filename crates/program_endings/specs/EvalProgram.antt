@@ -4,7 +4,7 @@ use Rattle.std.specs.Prelude.{◌≡◌, ◌⊎◌, ◌==◌, ◌&&◌, ℕ, Boo
 use Rattle.disk_model.specs.Disk.{DiskView, SameDisk}
 use Rattle.offline_programs.specs.Saying.{IsSaid, Saying}
 use Rattle.offline_programs.specs.declared.fault.RunFault.{RunFault}
-use Rattle.tellings.specs.Voice.{IsWithheld, Voice}
+use Rattle.tellings.specs.Voice.{Voice}
 use Rattle.tellings.specs.declared.note.Counts.{Counts}
 use Rattle.tellings.specs.declared.note.Frame.{Frame}
 use Rattle.tellings.specs.declared.note.Frame.TheVariants as frame
@@ -25,7 +25,7 @@ use Rattle.field_agenda.specs.Standing.{first_fields}
 use Rattle.field_agenda.specs.declared.by_fields.ByFields.{ByFields}
 use Rattle.field_agenda.specs.declared.stage.Stage.{Stage}
 use Rattle.field_agenda.specs.declared.stage.Stage.TheVariants as stage
-use Rattle.program_endings.specs.LiveProgram.{EndsFaulted, FaultReported, Framed, LastReported}
+use Rattle.program_endings.specs.LiveProgram.{FrameWithheld, EndsFaulted, FaultReported, Framed, LastReported}
 use Rattle.program_endings.specs.StrictProgram.{TellsStop}
 use Rattle.program_endings.specs.Records.{Calling, GivenDisk, Streams, Writing, text_after, text_before, view_given, writing}
 use Rattle.program_endings.specs.declared.ending.Ending.{Ending}
@@ -103,7 +103,7 @@ FramedLast V contents old new reported last = (V.takes_memory ≡ false → new 
 pub data LastOfEnd {O E : Type 0} (V : Voice) (s : Streams O E) (ending : Ending) (end : EvalEnd) : Type 0 where
   ended : Framed V s.output.contents frame.End s.output.old s.output.new → ending.status ≡ evaluation_status (Ok end) → TellsEval s.errors ending.reported (Ok end)
       → LastOfEnd V s ending end
-  unended : (why : RunFault) (mid : O) → V.takes_memory ≡ true → IsWithheld V why → LastReported {T = Bool} V s.output.contents mid s.output.new ending.reported (Err why)
+  unended : (why : RunFault) (mid : O) → FrameWithheld V s.output.old mid why → LastReported {T = Bool} V s.output.contents mid s.output.new ending.reported (Err why)
       → ending.status ≡ 1 → TellsEval s.errors ending.reported (Err (evals.Run why)) → LastOfEnd V s ending end
 
 -- A fault is printed last, where the voice has it and the run didn't print it, and is a line on the stream of errors.
@@ -130,5 +130,5 @@ EvaluationBegun {O = O} o g q s ending = (last : O) × (whole : Bool) × (answer
 pub data EvaluationEnded {D C O P E : Type 0} (o : EvalSetting C P) (g : GivenDisk D) (q : Calling C) (s : Streams O E) (ending : Ending) : Type 0 where
   greeted : (first : O) → Framed o.voice s.output.contents frame.Hello s.output.old first → EvaluationBegun o g q (streams_from s first) ending → EvaluationEnded o g q s ending
   -- it couldn't greet, and nothing was done but to close the disk
-  ungreeted : (why : RunFault) (mid : O) → o.voice.takes_memory ≡ true → IsWithheld o.voice why → LastReported {T = Bool} o.voice s.output.contents mid s.output.new ending.reported (Err why)
+  ungreeted : (why : RunFault) (mid : O) → FrameWithheld o.voice s.output.old mid why → LastReported {T = Bool} o.voice s.output.contents mid s.output.new ending.reported (Err why)
       → ending.status ≡ 1 → TellsEval s.errors ending.reported (Err (evals.Run why)) → q.new ≡ q.old → g.how.closed g.disk → EvaluationEnded o g q s ending

@@ -77,10 +77,14 @@ abbrev pub LastReported : {O T : Type 0} → Voice → (O → Option (List ℕ))
 LastReported V contents old new reported (Ok done) = new ≡ old
 LastReported V contents old new reported (Err why) = FaultReported V contents old new reported why
 
+-- Why a frame couldn't be printed, by a voice that takes memory, and what the output is then: where there was no memory, the same as before.
+abbrev pub FrameWithheld : {O : Type 0} → Voice → O → O → RunFault → Type 0
+FrameWithheld V old new why = (V.takes_memory ≡ true) × IsWithheld V why × (why ≡ fault.OutOfMemory → new ≡ old)
+
 -- A frame couldn't be printed, and that is the fault, which is printed last.
 abbrev pub Unframed : {O : Type 0} → Voice → Writing O → Bool → StrictAnswer → Type 0
 Unframed {O = O} V w reported answer =
-    (why : RunFault) × (mid : O) × (answer ≡ Err why) × (V.takes_memory ≡ true) × IsWithheld V why × FaultReported V w.contents mid w.new reported why
+    (why : RunFault) × (mid : O) × (answer ≡ Err why) × FrameWithheld V w.old mid why × FaultReported V w.contents mid w.new reported why
 
 -- after the end of its lines the voice's last message is printed
 abbrev pub EndsFramed : {O : Type 0} → Voice → Writing O → Bool → Option ℕ → StrictAnswer → Type 0

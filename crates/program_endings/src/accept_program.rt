@@ -1,13 +1,12 @@
 //! The program `check --accept` over a worksheet's files, from its files on.
 ghost use Rattle.std.specs.Prelude.{◌≡◌, Result};
 ghost use Rattle.check_report.specs.declared.verdict.Counts.{Counts};
-ghost use Rattle.sheet_check.specs.Accept.{to_accept};
-ghost use Rattle.sheet_check.specs.Evaluated.{way};
 ghost use Rattle.sheet_files.specs.Closing.{closable};
 ghost use Rattle.offline_programs.specs.Saying.{saying};
 ghost use Rattle.program_endings.specs.AcceptProgram.{AcceptDone, AcceptEnds, accepts_all, answer_of_acceptance};
 ghost use Rattle.program_endings.specs.CheckProgram.{EndsChecked};
 ghost use Rattle.program_endings.specs.Records.{calling, given_disk, streams, writing};
+ghost use Rattle.sheet_check.specs.Accept.{accepting_by};
 
 use crate::check_program::{end_in_words, found_any};
 use crate::passing::{Given, GivenBack};
@@ -50,7 +49,7 @@ fn accept_on<D: Close, C: Sources, P: Progress, W: Write, E: Says>(
     progress: &mut P,
     errors: &mut E,
 ) -> GivenBack<Ending, C, W>
-    ensures { AcceptDone (to_accept (way C.after C.clock C.wakes manner.now.request.now.limit) manner.now.request.now.chosen)
+    ensures { AcceptDone (accepting_by C.after C.clock C.wakes manner.now.request.now)
         (given_disk (closable D.view D.closed) outside.disk) (calling outside.sources result.sources)
         (streams (writing W.contents outside.output result.output) (saying E.contents E.tried errors.old errors.new)) result.ending }
 {
@@ -81,7 +80,7 @@ pub fn run_accept<D: Close, C: Sources, P: Progress, W: Write, E: Says>(
     progress: &mut P,
     errors: &mut E,
 ) -> GivenBack<Ending, C, W>
-    ensures { AcceptEnds (closable D.view D.closed) (to_accept (way C.after C.clock C.wakes manner.now.request.now.limit) manner.now.request.now.chosen)
+    ensures { AcceptEnds (closable D.view D.closed) (accepting_by C.after C.clock C.wakes manner.now.request.now)
         given.files (calling given.sources result.sources)
         (streams (writing W.contents given.output result.output) (saying E.contents E.tried errors.old errors.new)) result.ending }
 {

@@ -2,13 +2,13 @@
 ghost use Rattle.std.specs.Prelude.{◌≡◌, Err, Result};
 ghost use Rattle.check_report.specs.declared.verdict.Counts.{Counts};
 ghost use Rattle.sheet_check.specs.declared.named.CheckFault.TheVariants as checks;
-ghost use Rattle.sheet_check.specs.Evaluated.{one_by_one, way};
 ghost use Rattle.sheet_files.specs.Closing.{closable};
 ghost use Rattle.offline_programs.specs.Saying.{saying};
 ghost use Rattle.program_endings.specs.Ending.{EndsAs};
 ghost use Rattle.program_endings.specs.CheckProgram.{CheckDone, CheckEnds, EndsChecked, LastInJson, LastOfCheck, all_same, answer_of_check, check_passes, finds_any};
 ghost use Rattle.program_endings.specs.Faults as printed;
 ghost use Rattle.program_endings.specs.Records.{calling, given_disk, streams, writing};
+ghost use Rattle.sheet_check.specs.Evaluated.{checking_by};
 
 use crate::ending::ended;
 use crate::eval_program::end_without;
@@ -174,7 +174,7 @@ fn check_on<D: Close, C: Sources, P: Progress, W: Write, E: Says>(
     progress: &mut P,
     errors: &mut E,
 ) -> GivenBack<CheckEnding, C, W>
-    ensures { CheckDone (one_by_one (way C.after C.clock C.wakes manner.now.request.now.limit) manner.now.request.now.chosen manner.now.request.now.format)
+    ensures { CheckDone (checking_by C.after C.clock C.wakes manner.now.request.now)
         (given_disk (closable D.view D.closed) outside.disk) (calling outside.sources result.sources)
         (streams (writing W.contents outside.output result.output) (saying E.contents E.tried errors.old errors.new)) result.ending }
 {
@@ -208,7 +208,7 @@ pub fn run_check<D: Close, C: Sources, P: Progress, W: Write, E: Says>(
     errors: &mut E,
 ) -> GivenBack<CheckEnding, C, W>
     ensures { CheckEnds (closable D.view D.closed)
-        (one_by_one (way C.after C.clock C.wakes manner.now.request.now.limit) manner.now.request.now.chosen manner.now.request.now.format)
+        (checking_by C.after C.clock C.wakes manner.now.request.now)
         given.files (calling given.sources result.sources)
         (streams (writing W.contents given.output result.output) (saying E.contents E.tried errors.old errors.new)) result.ending }
 {

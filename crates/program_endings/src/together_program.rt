@@ -1,11 +1,10 @@
 //! The program `check` over a worksheet's files, from its files on, whose fields go side by side.
 ghost use Rattle.std.specs.Prelude.{Result};
-ghost use Rattle.sheet_check.specs.Evaluated.{way};
-ghost use Rattle.sheet_check.specs.Together.{side_by_side};
 ghost use Rattle.sheet_files.specs.Closing.{closable};
 ghost use Rattle.offline_programs.specs.Saying.{saying};
 ghost use Rattle.program_endings.specs.Records.{calling, given_disk, streams, writing};
 ghost use Rattle.program_endings.specs.TogetherProgram.{TogetherDone, TogetherEnds};
+ghost use Rattle.sheet_check.specs.Together.{together_by};
 
 use crate::check_program::{CheckEnding, end_check, end_unopened};
 use crate::passing::{Given, GivenBack};
@@ -24,7 +23,7 @@ fn check_together_on<D: Close, C: Sources, P: Progress, W: Write, E: Says>(
     errors: &mut E,
 ) -> GivenBack<CheckEnding, C, W>
     ensures { TogetherDone
-        (side_by_side (way C.after C.clock C.wakes beside.now.manner.request.now.limit) beside.now.jobs beside.now.manner.request.now.chosen beside.now.manner.request.now.format)
+        (together_by C.after C.clock C.wakes beside.now.jobs beside.now.manner.request.now)
         (given_disk (closable D.view D.closed) outside.disk) (calling outside.sources result.sources)
         (streams (writing W.contents outside.output result.output) (saying E.contents E.tried errors.old errors.new)) result.ending }
 {
@@ -58,7 +57,7 @@ pub fn run_check_together<D: Close, C: Sources, P: Progress, W: Write, E: Says>(
     errors: &mut E,
 ) -> GivenBack<CheckEnding, C, W>
     ensures { TogetherEnds (closable D.view D.closed)
-        (side_by_side (way C.after C.clock C.wakes beside.now.manner.request.now.limit) beside.now.jobs beside.now.manner.request.now.chosen beside.now.manner.request.now.format)
+        (together_by C.after C.clock C.wakes beside.now.jobs beside.now.manner.request.now)
         given.files (calling given.sources result.sources)
         (streams (writing W.contents given.output result.output) (saying E.contents E.tried errors.old errors.new)) result.ending }
 {

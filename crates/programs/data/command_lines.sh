@@ -35,6 +35,7 @@ told 'run with a flag twice' "error: the argument '--strict' cannot be used mult
 told 'run with a flag that has a value' "error: unexpected value 'yes' for '--strict' found; no more were expected" run --strict=yes a
 told 'eval with a flag alone' 'error: the following required arguments were not provided:' eval --unanswered
 told 'run with the flag of eval' "error: unexpected argument '--unanswered' found" run --unanswered a
+told 'check with a flag of eval' "error: unexpected argument '--changed' found" check --changed a
 told 'show with the flag of run' "error: unexpected argument '--strict' found" show --strict a
 told 'rescue without a path' 'error: the following required arguments were not provided:' rescue
 told 'rescue with one path' 'error: the following required arguments were not provided:' rescue a

@@ -254,7 +254,7 @@ cat >wanted <<'END'
 {"life":2,"line":7,"type":"asked"}
 {"life":2,"next":"> ","output":{"items":[],"kind":"format","tag":"verbatim"},"session":"b","shown":"","type":"banner"}
 {"id":4,"life":2,"next":"> ","output":{"items":["z 1"],"kind":"format","tag":"verbatim"},"prompt":"> ","session":"b","shown":"z 1","type":"answered"}
-{"answered":3,"over":1,"passed":1,"type":"counted","unanswered":1}
+{"answered":3,"errors":0,"over":1,"passed":1,"type":"counted","unanswered":1}
 {"type":"end"}
 status 1
 END
@@ -387,12 +387,12 @@ cat >wanted <<'END'
 {"life":1,"line":1,"type":"asked"}
 {"life":1,"next":"> ","output":{"items":[],"kind":"format","tag":"verbatim"},"session":"a","shown":"","type":"banner"}
 {"id":1,"life":1,"next":"> ","output":{"items":["x 1"],"kind":"format","tag":"verbatim"},"prompt":"> ","session":"a","shown":"x 1","type":"answered"}
-{"answered":1,"type":"counted","unanswered":0}
+{"answered":1,"errors":0,"type":"counted","unanswered":0}
 {"type":"end"}
 status 0
 END
 compare 'as JSON' "$(answer eval --json sheet </dev/null)" "$(cat wanted)"
-sed 's/"answered":1,/"answered":1,"over":0,"passed":0,/' wanted >wanted.time
+sed 's/"errors":0,/"errors":0,"over":0,"passed":0,/' wanted >wanted.time
 compare 'as JSON, with a limit' "$(answer eval --json --timeout 60 sheet </dev/null)" "$(cat wanted.time)"
 compare 'as JSON, a number that no field has' "$(answer eval --json sheet 9 </dev/null)" "$(head -n 1 wanted; printf '{"id":9,"name":"NoField","number":37,"type":"fault"}\nfault 37 NoField 9\nstatus 1')"
 compare 'as JSON, no worksheet' "$(answer eval --json missing </dev/null)" "$(printf '{"name":"Disk","number":32,"type":"fault"}\nfault 32 Disk\nstatus 1')"
@@ -418,7 +418,7 @@ cat >wanted <<'END'
 {"life":2,"line":5,"type":"asked"}
 {"life":2,"next":"In [1]: ","output":{"items":[],"kind":"format","tag":"verbatim"},"session":"a","shown":"","type":"banner"}
 {"id":3,"life":2,"next":"In [2]: ","output":{"items":["z"],"kind":"format","tag":"verbatim"},"prompt":"In [1]: ","session":"a","shown":"z","type":"answered"}
-{"answered":3,"type":"counted","unanswered":0}
+{"answered":3,"errors":0,"type":"counted","unanswered":0}
 {"type":"end"}
 status 0
 END
@@ -449,13 +449,64 @@ done
 END
 made 'session a plain sh wrong.sh\nnew 0 a x\nnew 1 a bad\nnew 2 a y\nnew 3 a deep\n'
 wrong='#1 a\n> x\nerror x\n#2 a\n> bad\noops\n#3 a\n> y\n'
-evaluates 'it stops at an answer that is an error' 3 'asked\nbanner a\nanswered 1\nasked\nanswered 2\nanswered 2 unanswered 2\nstopped at line 4\n' \
+evaluates 'it stops at an answer that is an error' 3 'asked\nbanner a\nanswered 1\nasked\nanswered 2\nanswered 2 unanswered 2\nerrors 1\nstopped at line 4\n' \
     "$wrong"'?\n#4 a\n> deep\n?\n' --stop-at-error
-evaluates 'and at one in which there is an error' 3 'asked\nbanner a\nanswered 3\nasked\nanswered 4\nanswered 4 unanswered 0\nstopped at line 4\n' \
+evaluates 'and at one in which there is an error' 3 'asked\nbanner a\nanswered 3\nasked\nanswered 4\nanswered 4 unanswered 0\nerrors 2\nstopped at line 4\n' \
     "$wrong"'error y\n#4 a\n> deep\n1{error#oops}\n' --stop-at-error 3 4
-evaluates 'strictly it is an answer' 0 'asked\nbanner a\nanswered 1\nasked\nanswered 2\nasked\nanswered 3\nasked\nanswered 4\nanswered 4 unanswered 0\n' \
+evaluates 'strictly it is an answer' 0 'asked\nbanner a\nanswered 1\nasked\nanswered 2\nasked\nanswered 3\nasked\nanswered 4\nanswered 4 unanswered 0\nerrors 2\n' \
     "$wrong"'error y\n#4 a\n> deep\n1{error#oops}\n' --strict
-evaluates 'where none is one it goes on' 0 'asked\nbanner a\nanswered 1\nasked\nanswered 3\nanswered 4 unanswered 0\n' \
+evaluates 'where none is one it goes on' 0 'asked\nbanner a\nanswered 1\nasked\nanswered 3\nanswered 4 unanswered 0\nerrors 2\n' \
     "$wrong"'error y\n#4 a\n> deep\n1{error#oops}\n' --stop-at-error 1 3
+
+# Errors are counted over the whole worksheet, between the answers and what a limit of time came to; the status is that of answers.
+evaluates 'errors, and a limit of time' 0 'asked\nbanner a\nanswered 1\nanswered 4 unanswered 0\nerrors 2\nover 0 passed 0\n' \
+    "$wrong"'error y\n#4 a\n> deep\n1{error#oops}\n' --timeout 60 1
+compare 'errors, as JSON' "$(answer eval --json sheet 1 </dev/null | tail -n 3)" \
+    "$(printf '{"answered":4,"errors":2,"type":"counted","unanswered":0}\n{"type":"end"}\nstatus 0')"
+compare 'errors, as JSON, with a limit' "$(answer eval --json --timeout 60 sheet 1 </dev/null | tail -n 3)" \
+    "$(printf '{"answered":4,"errors":2,"over":0,"passed":0,"type":"counted","unanswered":0}\n{"type":"end"}\nstatus 0')"
+evaluates 'errors are counted where nothing is evaluated, too' 0 'answered 4 unanswered 0\nerrors 2\n' "$wrong"'error y\n#4 a\n> deep\n1{error#oops}\n' --unanswered
+printf 'set 2 z\nset 4 v\neval 2\neval 4\nwait\n' >given
+"$tmhost" run sheet <given >text
+evaluates 'errors that are mended' 0 'answered 4 unanswered 0\n' '#1 a\n> x\nerror x\n#2 a\n> z\nerror z\n#3 a\n> y\nerror y\n#4 a\n> v\nerror v\n' --unanswered
+
+# What a change needs: all fields of each session in which one shows no answer, from an empty interpreter on. The others keep what they show,
+# and their interpreters aren't started.
+made 'session a plain sh count.sh\nsession b plain sh count.sh\nnew 0 a x\nnew 1 b y\nnew 2 a z\nnew 3 b w\neval 1\neval 2\neval 3\neval 4\nwait\n'
+sheet='#1 a\n> x\nx 1\n#2 b\n> y\ny 1\n#3 a\n> z\nz 2\n#4 b\n> w\nw 2\n'
+evaluates 'nothing was changed' 0 'answered 4 unanswered 0\n' "$sheet" --changed
+printf 'set 3 v\n' >given
+"$tmhost" run sheet <given >text
+evaluates 'a field in the middle was changed' 0 'asked\nbanner a\nanswered 1\nasked\nanswered 3\nanswered 4 unanswered 0\n' \
+    '#1 a\n> x\nx 1\n#2 b\n> y\ny 1\n#3 a\n> v\nv 2\n#4 b\n> w\nw 2\n' --changed
+evaluates 'and nothing since then' 0 'answered 4 unanswered 0\n' '#1 a\n> x\nx 1\n#2 b\n> y\ny 1\n#3 a\n> v\nv 2\n#4 b\n> w\nw 2\n' --changed
+# The program of a session that isn't evaluated isn't looked for.
+{ echo '#!/bin/sh' && cat count.sh; } >goes.sh
+chmod +x goes.sh
+made 'session a plain sh count.sh\nsession b plain ./goes.sh\nnew 0 a x\nnew 1 b y\nnew 2 a z\nnew 3 a u\nnew 4 b w\neval 1\neval 2\neval 3\neval 4\neval 5\nwait\nset 1 v\n'
+mv goes.sh away.sh
+evaluates 'the first field of a session' 0 'asked\nbanner a\nanswered 1\nasked\nanswered 3\nasked\nanswered 4\nanswered 5 unanswered 0\n' \
+    '#1 a\n> v\nv 1\n#2 b\n> y\ny 1\n#3 a\n> z\nz 2\n#4 a\n> u\nu 3\n#5 b\n> w\nw 2\n' --changed --jobs 1
+mv away.sh goes.sh
+printf 'clear 2\nnew 5 a t\n' >given
+"$tmhost" run sheet <given >text
+evaluates 'a field that was cleared, and one that is new' 0 \
+    'asked\nbanner a\nanswered 1\nasked\nbanner b\nanswered 2\nasked\nanswered 3\nasked\nanswered 4\nasked\nanswered 5\nasked\nanswered 6\nanswered 6 unanswered 0\n' \
+    '#1 a\n> v\nv 1\n#2 b\n> y\ny 1\n#3 a\n> z\nz 2\n#4 a\n> u\nu 3\n#5 b\n> w\nw 2\n#6 a\n> t\nt 4\n' --changed --jobs 1
+printf 'remove 3\nmove 4 0\n' >given
+"$tmhost" run sheet <given >text
+evaluates 'a field that was removed and one that was moved leave no trace' 0 'answered 5 unanswered 0\n' \
+    '#4 a\n> u\nu 3\n#1 a\n> v\nv 1\n#2 b\n> y\ny 1\n#5 b\n> w\nw 2\n#6 a\n> t\nt 4\n' --changed
+
+# A field whose line was lost shows no answer. Prose shows none, and that is no change.
+made 'session a plain sh count.sh\nsession prose plain true\nnew 0 prose Title\nnew 1 a x\nnew 2 a end\nnew 3 a y\nnew 4 prose text\neval 2\neval 3\nwait\neval 4\nwait\n'
+evaluates 'a field whose line was lost' 1 'asked\nbanner a\nanswered 2\nasked\nended a Ended lost 1\nanswered 2 unanswered 1\nover 0 passed 1\n' \
+    '#1 prose\n> Title\n?\n#2 a\n> x\nx 1\n#3 a\n> end\n? Ended\n#4 a\n> y\ny 1\n#5 prose\n> text\n?\n' --changed
+printf 'remove 3\n' >given
+"$tmhost" run sheet <given >text
+evaluates 'prose is no change' 0 'answered 2 unanswered 0\n' '#1 prose\n> Title\n?\n#2 a\n> x\nx 1\n#4 a\n> y\ny 1\n#5 prose\n> text\n?\n' --changed
+for other in '--unanswered sheet' '--from 1 sheet' 'sheet 1' '--from x sheet y'; do
+    words "changed, with $other" 2 "error: --changed goes with no ID after PATH, no --from and no --unanswered\n\nFor more information, try 'tmhost eval --help'.\n" eval --changed $other
+done
 
 counted evaluations

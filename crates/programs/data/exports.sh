@@ -136,7 +136,6 @@ shown 'a tag that is markup' '<b>:x' '{&lt;b&gt;:x}'
 shown 'lines' 'verbatim:one\ntwo\n' 'one\ntwo\n'
 shown 'a line feed at the beginning' 'verbatim:\n\nx' '\n\nx'
 shown 'a tab' 'verbatim:a\tb' 'a\tb'
-shown 'no output' 'verbatim:' ''
 shown 'byte 0' 'verbatim:a\000b' 'a\\x00b'
 shown 'control bytes' 'verbatim:\001\010\013\014\016\037\177' '\\x01\\x08\\x0b\\x0c\\x0e\\x1f\\x7f'
 shown 'a carriage return' 'verbatim:a\r\nb' 'a\\x0d\nb'
@@ -266,7 +265,6 @@ coded 'a run that a control byte cuts' 'verbatim:``\001``' '```' '``\\x01``'
 coded 'a hundred backquotes' "verbatim:$(repeated 100 '`')" "$(repeated 101 '`')" "$(repeated 100 '`')"
 coded 'tildes' 'verbatim:~~~\n~~~' '```' '~~~\n~~~'
 coded 'a channel in Markdown' 'output#x' '```' 'x'
-coded 'no output in Markdown' 'verbatim:' '```' ''
 coded 'control bytes and a stray byte in Markdown' 'verbatim:a\000\r\177\377b' '```' 'a\\x00\\x0d\\x7f\377b'
 marked 'a line feed at the end' x 'verbatim:a\n' '```a\nx\n```\n\n```\na\n```\n'
 formula 'a formula in Markdown' '$x^2$'
@@ -381,7 +379,6 @@ outputs() {
 
 noted 'a notebook' '1<2' 'verbatim:true & so' '1<2' '"text/plain":"true & so"'
 noted 'no input in a notebook' '' 'verbatim:A' '' '"text/plain":"A"'
-noted 'no output in a notebook' x 'verbatim:' x '"text/plain":""'
 noted 'an input with a tab in a notebook' 'a\011b' 'verbatim:A' 'a\tb' '"text/plain":"A"'
 noted 'quotes in a notebook' '"a"' 'verbatim:"\\b"' '\"a\"' '"text/plain":"\"\\b\""'
 noted 'lines in a notebook' x 'verbatim:one\n\ttwo\n' x '"text/plain":"one\n\ttwo\n"'
@@ -423,6 +420,57 @@ noted 'a PNG in a text in a text in a notebook' x "verbatim:\002verbatim:\002ima
 noted 'an input of lines in a notebook' 'a\342\200\250\011b\342\200\250' 'verbatim:A\342\200\250B' 'a\n\tb\n' "$(printf '"text/plain":"A\342\200\250B"')"
 noted 'a block of HTML in a notebook' x 'html:<b>bold</b>' x '"text/plain":"{html:<b>bold</b>}"'
 noted 'a tag that is markup in a notebook' x '<b>:x' x '"text/plain":"{<b>:x}"'
+
+# Answers that show nothing have no output in any format: NAME BLOCK.
+unseen() {
+    answered x '> ' "$2"
+    compare "$1 on a page" "$(fields_of)" "$(field 1 '&gt; ' x; printf "</section>\n$page_end")"
+    compare "$1 in Markdown" "$(answer export markdown area </dev/null)" "$(ending '```a\nx\n```\n' 0)"
+    compare "$1 in a notebook" "$(answer export notebook area </dev/null)" '{"cells":['"$(cell 1 x '')$cells_end"
+}
+
+# Those that show a byte have one: NAME BLOCK, and the texts on a page, in Markdown and in a notebook.
+seen() {
+    shown "$1 on a page" "$2" "$3"
+    coded "$1 in Markdown" "$2" '```' "$4"
+    noted "$1 in a notebook" x "$2" x '"text/plain":"'"$5"'"'
+}
+unseen 'no output' 'verbatim:'
+unseen 'an empty channel' 'output#'
+unseen 'empty blocks in a block' 'verbatim:\002output#\002verbatim:\005\005\002verbatim:\005'
+unseen 'an empty error' 'output#\002output#\005'
+seen 'a space' 'verbatim: ' ' ' ' ' ' '
+seen 'a tab' 'output#\t' '\t' '\t' '\t'
+seen 'byte 0 alone' 'verbatim:\000' '\\x00' '\\x00' '\\x00'
+seen 'a text in the last of empty blocks' 'verbatim:\002verbatim:\005\002output#\002verbatim:x\005\005' x x x
+seen 'an empty block of HTML' 'html:' '{html:}' '{html:}' '{html:}'
+seen 'an empty block of HTML in an empty block' 'verbatim:\002html:\005' '{html:}' '{html:}' '{html:}'
+seen 'an empty formula' 'latex:' '<span class="tex"></span>' '{latex:}' '{latex:}'
+shown 'a line feed alone on a page' 'verbatim:\n' '\n'
+marked 'a line feed alone in Markdown' x 'verbatim:\n' '```a\nx\n```\n\n```\n\n```\n'
+noted 'a line feed alone in a notebook' x 'verbatim:\n' x '"text/plain":"\n"'
+
+# A field whose answer shows nothing, in front of one whose answer does.
+begin
+put '\002\000\000\000\000\001a\000\001x'
+put '\002\000\000\000\001\001a\000\001y'
+put '\007\000\000\000\001\000\002> \002verbatim:\005'
+put '\007\000\000\000\002\000\002> \002verbatim:B\005'
+finish
+compare 'nothing in front of an output' "$(fields_of)" "$(field 1 '&gt; ' x; echo '</section>'; field 2 '&gt; ' y; printf '<pre class="out" dir="ltr">\nB</pre>\n</section>\n'"$page_end")"
+compare 'its Markdown' "$(answer export markdown area </dev/null)" '```a
+x
+```
+
+```a
+y
+```
+
+```
+B
+```
+status 0'
+compare 'its notebook' "$(answer export notebook area </dev/null)" '{"cells":['"$(cell 1 x ''),$(cell 2 y "$(result_json '"text/plain":"B"')")$cells_end"
 
 # Fields without an answer, in their order.
 begin

@@ -1,5 +1,5 @@
 -- Lines that are taken as one group, one after another.
-use Rattle.std.proofs.Common.{◌≡◌, ◌∙◌, ℕ, true, List, [], ◌∷◌, ◌++◌, ap, arith, length, length-append, refl, sym, append_assoc, append-nil}
+use Rattle.std.proofs.Common.{◌≡◌, ◌∙◌, ◌≤◌, ℕ, true, List, [], ◌∷◌, ◌++◌, ap, arith, length, length-append, refl, sym, append_assoc, append-nil}
 use Rattle.std.specs.Prelude.{Bool}
 use Rattle.std.specs.List.{AllByRecursion}
 use Rattle.host_events.specs.declared.event.Event.{Event}
@@ -27,6 +27,10 @@ one_gathered strict lines left rest l old new so next may adds = record {
   each = each_more strict so.given l so.each may;
   are = adds ∙ ap (λ (es : List Event). es ++ line_events (line_of l)) so.are ∙ sym (events_more so.given l);
 }
+
+-- no more lines are left than there were
+pub none_more : (strict : Bool) (lines left : List (List ℕ)) (events : List Event) → Gathers strict lines left events → length left ≤ length lines
+none_more strict lines left events so = omega (arith, ap length so.split, length-append so.given left)
 
 -- as many lines are left, so none was taken
 pub none_given : (strict : Bool) (lines left : List (List ℕ)) (events : List Event) → Gathers strict lines left events → length left ≡ length lines → left ≡ lines

@@ -52,7 +52,7 @@ of_lines a r b (at_end none is same) = same_left a _ b same refl
 of_lines a r b (stopped wrong is same) = same_left a _ b same refl
 of_lines a r b (uncounted many is same) = same_left a _ b same refl
 of_lines a r b (as_group going takes) = record { taken = takes.gathers.given; are = takes.gathers.split ∙ ap (λ (l : List (List ℕ)). takes.gathers.given ++ l) (sym (ap (λ (x : ScriptAt). x.lines) takes.stands)) }
-of_lines a r b (skips rest number going gathers count is same) = record { taken = gathers.given; are = gathers.split ∙ ap (λ (l : List (List ℕ)). gathers.given ++ l) (sym (ap (λ (x : ScriptAt). x.lines) same)) }
+of_lines a r b (skips rest number going gathers more count is same) = record { taken = gathers.given; are = gathers.split ∙ ap (λ (l : List (List ℕ)). gathers.given ++ l) (sym (ap (λ (x : ScriptAt). x.lines) same)) }
 of_lines a r b (by_itself l rest going next takes) = record { taken = l ∷ []; are = next ∙ ap (λ (ls : List (List ℕ)). l ∷ ls) (sym (of_line (line_of l) (after_one_line a rest) r b takes)) }
 
 of_saying : (wait : Option ℕ) (a : ScriptAt) (w : World) (r : Result Turn RunFault) (b : ScriptAt) → SaysIn wait a w r b → TookLines a b

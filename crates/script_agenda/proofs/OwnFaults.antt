@@ -36,7 +36,7 @@ module _ (d : DiskView) where
   of_lines a r b (stopped wrong is same) = at_turn r _ is
   of_lines a r b (uncounted many is same) = subst (λ (x : Result Turn RunFault). IsTrueAnswer x) (sym is) tt
   of_lines a r b (as_group going takes) = at_turn r _ takes.asks
-  of_lines a r b (skips rest number going gathers count is same) = at_turn r _ is
+  of_lines a r b (skips rest number going gathers more count is same) = at_turn r _ is
   of_lines a r b (by_itself line rest going next takes) = of_line (line_of line) (after_one_line a rest) r b takes
 
   of_saying : (wait : Option ℕ) (a : ScriptAt) (w : World) (r : Result Turn RunFault) (b : ScriptAt) → SaysIn wait a w r b → IsTrueAnswer r

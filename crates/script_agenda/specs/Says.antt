@@ -1,5 +1,5 @@
 -- What an agenda of a script says is next. (docs/use/SCRIPT.md; docs/dev/EDGE.md, "A faithful run".)
-use Rattle.std.specs.Prelude.{◌≡◌, ◌≢◌, ◌⊎◌, ℕ, ◌+◌, ◌-◌, ◌^◌, ◌≤◌, ◌&&◌, Bool, true, false, List, [], ◌∷◌, Option, Some, None, Result, Ok, Err, length, nat_lt}
+use Rattle.std.specs.Prelude.{◌≡◌, ◌≢◌, ◌⊎◌, ℕ, ◌+◌, ◌-◌, ◌^◌, ◌≤◌, ◌<◌, ◌&&◌, Bool, true, false, List, [], ◌∷◌, Option, Some, None, Result, Ok, Err, length, nat_lt}
 use Rattle.host_events.specs.declared.command.Command.{Command}
 use Rattle.host_events.specs.declared.event.Event.{Event}
 use Rattle.host_events.specs.declared.event.Event.TheVariants as event
@@ -71,8 +71,8 @@ pub data SaysOfLines (a : ScriptAt) (r : Result Turn RunFault) (b : ScriptAt) : 
   -- so many lines were taken that one more can't be counted
   uncounted : 2 ^ 64 ≤ a.number + 1 → r ≡ Err fault.InputTooLong → b ≡ a → SaysOfLines a r b
   as_group : (a.strict && a.wrong) ≡ false → TakesGroup a r b → SaysOfLines a r b
-  -- Lines that are skipped were passed over.
-  skips : (rest : List (List ℕ)) (number : ℕ) → (a.strict && a.wrong) ≡ false → Gathers a.strict a.lines rest [] → number + length rest ≡ a.number + length a.lines
+  -- Lines that are skipped were passed over, one at least.
+  skips : (rest : List (List ℕ)) (number : ℕ) → (a.strict && a.wrong) ≡ false → Gathers a.strict a.lines rest [] → a.number < number → number + length rest ≡ a.number + length a.lines
       → r ≡ Ok turn.Nothing → b ≡ record a { lines = rest; number = number; wrong = false } → SaysOfLines a r b
   by_itself : (line : List ℕ) (rest : List (List ℕ)) → (a.strict && a.wrong) ≡ false → a.lines ≡ line ∷ rest → TakesOneLine (line_of line) (after_one_line a rest) r b → SaysOfLines a r b
 

@@ -14,7 +14,7 @@ use Rattle.session_engine.specs.Host.{HostView, IsHost}
 use Rattle.child_edge.specs.Faithful.{at}
 use Rattle.child_edge.specs.Reported.{spoken}
 use Rattle.offline_programs.specs.declared.fault.RunFault.{RunFault}
-use Rattle.tellings.specs.Voice.{numbered_text}
+use Rattle.tellings.specs.Voice.{CutShort, numbered_text}
 use Rattle.driver.specs.declared.report.Show.TheVariants as show
 use Rattle.driver.specs.Items.{Item, RunStep, after_fault, ask, halt, print_fault}
 use Rattle.driver.specs.Place.{RunPlace, Tries}
@@ -39,7 +39,7 @@ use Rattle.field_agenda.proofs.Looked.{looked_first}
 use Rattle.driver.specs.Place.{source_rules}
 use Rattle.sheet_check.specs.Driven.{DrivenToEnd, DrivenUpTo, copy_begins, copy_place, copy_rules, counts_as_there}
 use Rattle.sheet_check.specs.Evaluated.{Way}
-use Rattle.sheet_check.specs.Marks.{line_marks, mark_rules, mark_voice, marks_of, number_of, numbers_of, reply_marks, report_marks, step_marks}
+use Rattle.sheet_check.specs.Marks.{KeptFront, line_marks, mark_rules, mark_voice, marks_of, number_of, numbers_of, reply_marks, report_marks, step_marks}
 use Rattle.sheet_check.specs.declared.marks.AllThere.{AllThere}
 use Rattle.sheet_check.specs.declared.marks.Mark.{Mark}
 use Rattle.sheet_check.specs.declared.marks.Mark.TheVariants as mark
@@ -88,6 +88,21 @@ says_none k disk text is = says k k disk text [] is (sym (append-nil k.kept))
 pub says_marks : (k l : Marks) (disk : DiskView) (text : List ℕ) (marks : List Mark) (r : Result (Unit {0}) RunFault) → text ≡ numbers_of marks → OnOk r (l.kept ≡ k.kept ++ marks) → Tries mark_rules k disk text (is_ok r) l
 says_marks k l disk text marks (Ok done) is kept = says k l disk text marks is kept
 says_marks k l disk text marks (Err why) is kept = record { tried = tt; appends = λ whole. absurd (true≢false (sym whole)) }
+
+-- where there was no memory for them, a beginning of them was kept
+pub cut_marks : (k l : Marks) (text : List ℕ) (marks : List Mark) (r : Result (Unit {0}) RunFault) → text ≡ numbers_of marks → IfErr r (λ why. KeptFront k.kept l.kept marks)
+    → IfErr r (CutShort (Some (numbers_of k.kept)) (Some (numbers_of l.kept)) text)
+cut_marks k l text marks (Ok done) is cut = tt
+cut_marks k l text marks (Err why) is cut = λ lacks. record {
+  front = numbers_of cut.front;
+  rest = numbers_of cut.rest;
+  split = sym (numbers-more cut.front cut.rest) ∙ ap numbers_of cut.split ∙ sym is;
+  wrote = ap numbers_of cut.kept ∙ numbers-more k.kept cut.front;
+}
+
+pub none_kept : (k l : Marks) (marks : List Mark) (r : Result (Unit {0}) RunFault) → IfErr r (λ why. l.kept ≡ k.kept) → IfErr r (λ why. KeptFront k.kept l.kept marks)
+none_kept k l marks (Ok done) same = tt
+none_kept k l marks (Err why) same = record { front = []; rest = marks; split = refl; kept = same ∙ sym (append-nil k.kept) }
 
 -- marks by their numbers
 

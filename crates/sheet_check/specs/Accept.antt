@@ -11,16 +11,19 @@ use Rattle.journal.specs.declared.opening.OpenCause.{OpenCause}
 use Rattle.recovery.specs.Sheets.{IsSheetImage, TellsOfSheet}
 use Rattle.sheet_check.specs.Kept.{HoldsAll, HoldsBut, NoPlace, answer_op}
 use Rattle.host_events.specs.declared.outcome.HostFault.TheVariants as hosts
+use Rattle.child_edge.specs.Faithful.{Relation}
+use Rattle.live.specs.Records.{Clock, Watch}
 use Rattle.offline_programs.specs.declared.fault.RunFault.{RunFault}
 use Rattle.offline_programs.specs.declared.fault.RunFault.TheVariants as fault
 use Rattle.check_report.specs.declared.chosen.Chosen.{Chosen}
 use Rattle.check_report.specs.declared.report.Format.TheVariants as format
+use Rattle.check_report.specs.declared.request.Request.{Request}
 use Rattle.check_report.specs.declared.verdict.Counts.{Counts}
 use Rattle.check_report.specs.declared.verdict.Verdict.{Verdict}
 use Rattle.check_report.specs.declared.verdict.Verdict.TheVariants as verdict
 use Rattle.check_report.specs.Reports.{Case, report_front}
 use Rattle.sheet_check.specs.Check.{OnlyRead, Passage, SheetBroke, SheetChecked, SheetLed}
-use Rattle.sheet_check.specs.Evaluated.{OneByOne, Way, one_by_one}
+use Rattle.sheet_check.specs.Evaluated.{OneByOne, Way, one_by_one, way}
 use Rattle.sheet_check.specs.Named.{ByNames, missing_named}
 use Rattle.sheet_check.specs.declared.named.CheckFault.{CheckFault}
 use Rattle.sheet_check.specs.declared.named.CheckFault.TheVariants as checks
@@ -28,6 +31,10 @@ use Rattle.sheet_check.specs.declared.named.CheckFault.TheVariants as checks
 -- how fields are checked one after another, and reported with what is accepted
 abbrev pub to_accept : {C : Type 0} → Way C → Chosen → OneByOne C
 to_accept o chosen = one_by_one o chosen format.Accepting
+
+-- as a request asks for it
+abbrev pub accepting_by : {C : Type 0} → Relation C → Clock C → Watch C → Request → OneByOne C
+accepting_by R K W request = to_accept (way R K W request.limit) request.chosen
 
 -- the answer that is accepted, of the one that came: where its output differs or is new, that one
 abbrev pub accepted_answer : Option Answer → Verdict → Option Answer

@@ -13,6 +13,7 @@ use Rattle.driver.specs.Runs.{Stands}
 use Rattle.driver.specs.Steps.{Run}
 use Rattle.evaluation.specs.Meant.{missing_in}
 use Rattle.evaluation.specs.declared.plan.Plan.{Plan}
+use Rattle.evaluation.specs.declared.plan.Spared.TheVariants as spared
 use Rattle.evaluation.specs.declared.plan.Which.TheVariants as which
 use Rattle.field_agenda.specs.FieldsRules.{fields_rules}
 use Rattle.field_agenda.specs.LooksFirst.{IsUnderWay}
@@ -27,7 +28,7 @@ use Rattle.sheet_check.specs.declared.marks.Marks.{Marks}
 
 -- all of these fields, up to the end: a field after one that shows no answer is asked, too
 abbrev pub checking_plan : List ℕ → Option ℕ → ℕ → Plan
-checking_plan ids limit jobs = record { which = which.Named ids; unanswered = false; strict = false; at_errors = false; limit = limit; keep_going = true; jobs = jobs }
+checking_plan ids limit jobs = record { which = which.Named ids; spared = spared.Nothing; strict = false; at_errors = false; limit = limit; keep_going = true; jobs = jobs }
 
 -- this field alone
 abbrev pub one_plan : {C : Type 0} → Way C → ℕ → Plan

@@ -14,6 +14,7 @@ use Rattle.offline_programs.specs.declared.fault.RunFault.TheVariants as fault
 use Rattle.sheet_json.specs.declared.checks.Took.{Took}
 use Rattle.check_report.specs.declared.chosen.Chosen.{Chosen}
 use Rattle.check_report.specs.declared.report.Format.{Format}
+use Rattle.check_report.specs.declared.request.Request.{Request}
 
 -- How fields are evaluated again: what may come of the calls on the children, of their clock and of a watch of them, and how many seconds
 -- a field may take from when its line was sent, where there is a limit.
@@ -34,6 +35,10 @@ pub record OneByOne (C : Type 0) : Type 1 where
 
 abbrev pub one_by_one : {C : Type 0} → Way C → Chosen → Format → OneByOne C
 one_by_one o chosen F = record { way = o; chosen = chosen; format = F }
+
+-- as a request asks for it
+abbrev pub checking_by : {C : Type 0} → Relation C → Clock C → Watch C → Request → OneByOne C
+checking_by R K W request = one_by_one (way R K W request.limit) request.chosen request.format
 
 -- the answer that a field shows in a world
 abbrev pub shown_in : World → ℕ → Option Answer

@@ -1,5 +1,5 @@
 -- What a driver that evaluates fields of a copy keeps in memory, where it prints nothing: marks. (docs/use/CHECK.md.)
-use Rattle.std.specs.Prelude.{◌==◌, ℕ, ◌+◌, Bool, true, false, List, [], ◌∷◌, Some, map}
+use Rattle.std.specs.Prelude.{◌≡◌, ◌==◌, ℕ, ◌+◌, Bool, true, false, List, [], ◌∷◌, ◌++◌, Some, map}
 use Rattle.std.specs.List.{flat_map, list_any}
 use Rattle.worksheet.specs.declared.refusal.Refusal.{Refusal}
 use Rattle.worksheet.specs.declared.refusal.Refusal.TheVariants as refusal
@@ -53,6 +53,13 @@ shown_marks (show.Export line format) = []
 -- of lines, one after another
 abbrev pub line_marks : List Outcome → List Mark
 line_marks outcomes = flat_map (λ o. reply_marks o.reply) outcomes
+
+-- A beginning of these marks was kept.
+pub record KeptFront (old new marks : List Mark) : Type 0 where
+  pub front : List Mark
+  pub rest : List Mark
+  pub split : front ++ rest ≡ marks
+  pub kept : new ≡ old ++ front
 
 -- Of all else nothing is kept.
 abbrev pub report_marks : Report → List Mark

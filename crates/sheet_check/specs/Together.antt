@@ -17,13 +17,15 @@ use Rattle.journal.specs.declared.opening.OpenCause.{OpenCause}
 use Rattle.recovery.specs.Sheets.{IsSheetImage, TellsOfSheet}
 use Rattle.session_engine.specs.Host.{HostView}
 use Rattle.session_engine.specs.World.{World}
-use Rattle.child_edge.specs.Faithful.{At, at}
+use Rattle.child_edge.specs.Faithful.{At, Relation, at}
 use Rattle.child_edge.specs.Seats.{running}
 use Rattle.child_edge.specs.Stops.{Stops}
+use Rattle.live.specs.Records.{Clock, Watch}
 use Rattle.offline_programs.specs.declared.fault.RunFault.{RunFault}
 use Rattle.offline_programs.specs.declared.fault.RunFault.TheVariants as fault
 use Rattle.check_report.specs.declared.chosen.Chosen.{Chosen}
 use Rattle.check_report.specs.declared.report.Format.{Format}
+use Rattle.check_report.specs.declared.request.Request.{Request}
 use Rattle.check_report.specs.declared.verdict.Counts.{Counts}
 use Rattle.check_report.specs.declared.verdict.Verdict.{Verdict}
 use Rattle.check_report.specs.Chosen.{Judged, is_chosen}
@@ -33,7 +35,7 @@ use Rattle.evaluation.specs.declared.plan.Plan.{Plan}
 use Rattle.driver.specs.Stopping.{StopsAll}
 use Rattle.sheet_check.specs.Check.{IsCopy, Passage, SheetAnswer, world_at_break}
 use Rattle.sheet_check.specs.Driven.{DriveBroke, DrivenToEnd, checking_plan}
-use Rattle.sheet_check.specs.Evaluated.{Way, came_if, fault_on_copy, one_by_one, reason_shown_in, shown_in}
+use Rattle.sheet_check.specs.Evaluated.{Way, came_if, fault_on_copy, one_by_one, reason_shown_in, shown_in, way}
 use Rattle.sheet_check.specs.Marks.{is_late}
 use Rattle.sheet_check.specs.Named.{ByNames, missing_named}
 use Rattle.sheet_check.specs.declared.named.CheckFault.{CheckFault}
@@ -50,6 +52,10 @@ pub record SideBySide (C : Type 0) : Type 1 where
 
 abbrev pub side_by_side : {C : Type 0} → Way C → ℕ → Chosen → Format → SideBySide C
 side_by_side o jobs chosen F = record { way = o; jobs = jobs; chosen = chosen; format = F }
+
+-- as a request asks for it, in so many sessions at a time
+abbrev pub together_by : {C : Type 0} → Relation C → Clock C → Watch C → ℕ → Request → SideBySide C
+together_by R K W jobs request = side_by_side (way R K W request.limit) jobs request.chosen request.format
 
 -- a number, where its field is checked
 abbrev pub id_of_chosen : Bool → ℕ → List ℕ

@@ -12,8 +12,7 @@ ghost use Rattle.offline_programs.specs.declared.fault.RunFault.TheVariants as r
 ghost use Rattle.journal.specs.declared.opening.OpenCause.TheVariants as opens;
 ghost use Rattle.check_report.specs.Verdicts.{total};
 ghost use Rattle.check_report.specs.declared.report.Format.TheVariants as formats;
-ghost use Rattle.sheet_check.specs.Accept.{AcceptAnswer, AcceptLeft, SheetAccepts, accepted, filing, to_accept};
-ghost use Rattle.sheet_check.specs.Evaluated.{way};
+ghost use Rattle.sheet_check.specs.Accept.{AcceptAnswer, AcceptLeft, SheetAccepts, accepted, accepting_by, filing};
 ghost use Rattle.sheet_check.specs.Check.{IsCopy, passage};
 ghost use Rattle.sheet_check.specs.declared.named.CheckFault.TheVariants as named;
 ghost use Rattle.sheet_check.specs.Progress.{CheckShows, FieldsLeft, FieldsShow, LeavesLine, SheetShows, checked_count, display};
@@ -56,7 +55,7 @@ fn accept_field<D: Disk, S: Disk, C: Sources, W: Write, P: Progress>(
     ensures written { store.old.gathers ≡ false → store.new.gathers ≡ false }
     ensures ok { (w : World) → IsHost driver.old.host w → (ops more : List Op) → (disk : DiskView)
         → Stores ops more disk store.old → IfOk result (λ after. (wrote : FieldWrote
-        (to_accept (way C.after C.clock C.wakes turn.now.manner.request.now.limit) turn.now.manner.request.now.chosen)
+        (accepting_by C.after C.clock C.wakes turn.now.manner.request.now)
         turn.now.field.now (at w driver.old.sources driver.old.host.store.disk)
         (left driver.new.host driver.new.sources (W.contents writer.old) (W.contents writer.new)) turn.now.counts after)
         × PutAll (storing ops more disk store.new) (accepted wrote.0)) }
@@ -64,7 +63,7 @@ fn accept_field<D: Disk, S: Disk, C: Sources, W: Write, P: Progress>(
     ensures errors { IfOk result (λ after. after.errors ≤ total after) }
     ensures err { (w : World) → IsHost driver.old.host w → (ops more : List Op) → (disk : DiskView)
         → Stores ops more disk store.old → IfErr result (FieldBroke
-        (to_accept (way C.after C.clock C.wakes turn.now.manner.request.now.limit) turn.now.manner.request.now.chosen)
+        (accepting_by C.after C.clock C.wakes turn.now.manner.request.now)
         turn.now.field.now (at w driver.old.sources driver.old.host.store.disk)
         (left driver.new.host driver.new.sources (W.contents writer.old) (W.contents writer.new)) (storing ops more disk store.new)) }
     ensures shown { IfOk result (λ after.
@@ -94,12 +93,12 @@ fn accept_fields<D: Disk, S: Disk, C: Sources, W: Write, P: Progress>(
     ensures written { store.old.gathers ≡ false → store.new.gathers ≡ false }
     ensures ok { (w : World) → IsHost driver.old.host w → (ops : List Op) → (disk : DiskView)
         → Stores ops [] disk store.old → IfOk result (FieldsTook
-        (to_accept (way C.after C.clock C.wakes suite.now.manner.request.now.limit) suite.now.manner.request.now.chosen)
+        (accepting_by C.after C.clock C.wakes suite.now.manner.request.now)
         suite.now.sheet.now.contents.fields (at w driver.old.sources driver.old.host.store.disk)
         (left driver.new.host driver.new.sources (W.contents writer.old) (W.contents writer.new)) (storing ops [] disk store.new)) }
     ensures err { (w : World) → IsHost driver.old.host w → (ops : List Op) → (disk : DiskView)
         → Stores ops [] disk store.old → IfErr result (FieldsBroke
-        (to_accept (way C.after C.clock C.wakes suite.now.manner.request.now.limit) suite.now.manner.request.now.chosen)
+        (accepting_by C.after C.clock C.wakes suite.now.manner.request.now)
         suite.now.sheet.now.contents.fields (at w driver.old.sources driver.old.host.store.disk)
         (left driver.new.host driver.new.sources (W.contents writer.old) (W.contents writer.new)) (storing ops [] disk store.new)) }
     ensures shown { IfOk result (λ counts.
@@ -141,14 +140,14 @@ fn accept_and_stop<D: Disk, S: Disk, C: Sources, W: Write, P: Progress>(
     ensures written { store.old.gathers ≡ false → store.new.gathers ≡ false }
     ensures ok { (w : World) → IsHost driver.old.host w → (ops : List Op) → (disk : DiskView)
         → Stores ops [] disk store.old → IfOk result (λ counts. (ended : FieldsEnded
-        (to_accept (way C.after C.clock C.wakes suite.now.manner.request.now.limit) suite.now.manner.request.now.chosen)
+        (accepting_by C.after C.clock C.wakes suite.now.manner.request.now)
         suite.now.sheet.now.contents.fields w driver.old.host.store.disk
         (passage driver.old.sources driver.new.sources (W.contents writer.old) (W.contents writer.new)) counts)
         × PutAll (storing ops [] disk store.new) (accepted ended.0)) }
     ensures err { (w : World) → IsHost driver.old.host w → IsCopy suite.now.sheet.now.contents w driver.old.host.store.disk
         → (ops : List Op) → (disk : DiskView) → Stores ops [] disk store.old
         → IfErr result (AcceptLeft
-        (to_accept (way C.after C.clock C.wakes suite.now.manner.request.now.limit) suite.now.manner.request.now.chosen)
+        (accepting_by C.after C.clock C.wakes suite.now.manner.request.now)
         suite.now.sheet.now.contents
         (passage driver.old.sources driver.new.sources (W.contents writer.old) (W.contents writer.new)) (filing ops disk store.new.disk)) }
     ensures shown { SheetShows (display formats.Accepting P.shows)
@@ -178,7 +177,7 @@ fn accepted_on_copy<S: Disk, C: Sources, W: Write, P: Progress>(
         × (progress.new ≡ progress.old) × (store.new ≡ store.old)) }
     ensures some { (ops : List Op) → (disk : DiskView) → Stores ops [] disk store.old
         → IfSome result.answer (OnCopy
-        (to_accept (way C.after C.clock C.wakes suite.now.manner.request.now.limit) suite.now.manner.request.now.chosen)
+        (accepting_by C.after C.clock C.wakes suite.now.manner.request.now)
         suite.now.sheet.now.contents
         (passage sources result.sources (W.contents writer.old) (W.contents writer.new)) (storing ops [] disk store.new)) }
     ensures shown { IfSome result.answer (λ counted. SheetShows (display formats.Accepting P.shows)
@@ -216,7 +215,7 @@ fn accepted_on_copies<S: Disk, C: Sources, W: Write, P: Progress>(
         × (progress.new ≡ progress.old) × (store.new ≡ store.old)) }
     ensures some { (ops : List Op) → (disk : DiskView) → Stores ops [] disk store.old
         → IfSome result.answer (OnCopy
-        (to_accept (way C.after C.clock C.wakes manner.now.request.now.limit) manner.now.request.now.chosen)
+        (accepting_by C.after C.clock C.wakes manner.now.request.now)
         store.old.sheet.contents
         (passage sources result.sources (W.contents writer.old) (W.contents writer.new)) (storing ops [] disk store.new)) }
     ensures shown { IfSome result.answer (λ counted. SheetShows (display formats.Accepting P.shows)
@@ -252,7 +251,7 @@ pub(crate) fn accept_sheet<S: Disk, C: Sources, W: Write, P: Progress>(
     ensures written { store.old.gathers ≡ false → store.new.gathers ≡ false }
     ensures accepted { (ops : List Op) → (disk : DiskView) → Stores ops [] disk store.old
         → SheetAccepts
-        (to_accept (way C.after C.clock C.wakes manner.now.request.now.limit) manner.now.request.now.chosen)
+        (accepting_by C.after C.clock C.wakes manner.now.request.now)
         store.old.sheet.contents
         (passage sources result.sources (W.contents writer.old) (W.contents writer.new))
         ((writer.new ≡ writer.old) × (result.sources ≡ sources)) (filing ops disk store.new.disk) result.answer }
@@ -287,7 +286,7 @@ pub fn check_accepting<D: Disk, C: Sources, W: Write, P: Progress>(
     writer: &mut W,
 ) -> Checked<D, C>
     ensures accepted { AcceptAnswer
-        (to_accept (way C.after C.clock C.wakes manner.now.request.now.limit) manner.now.request.now.chosen)
+        (accepting_by C.after C.clock C.wakes manner.now.request.now)
         (D.view disk) (D.view result.disk)
         (passage sources result.sources (W.contents writer.old) (W.contents writer.new))
         ((writer.new ≡ writer.old) × (result.sources ≡ sources)) result.answer }

@@ -12,8 +12,8 @@ ghost use Rattle.live.specs.Records.{left};
 ghost use Rattle.sheet_check.specs.Kept.{Stores};
 ghost use Rattle.check_report.specs.Chosen.{is_chosen};
 ghost use Rattle.check_report.specs.declared.report.Format.TheVariants as formats;
-ghost use Rattle.sheet_check.specs.Accept.{accepted_answer, answer_ops, to_accept};
-ghost use Rattle.sheet_check.specs.Evaluated.{came_if, shown_in, way};
+ghost use Rattle.sheet_check.specs.Accept.{accepted_answer, accepting_by, answer_ops};
+ghost use Rattle.sheet_check.specs.Evaluated.{came_if, shown_in};
 ghost use Rattle.sheet_check.specs.Progress.{LeavesLine, MakesRoom};
 ghost use Rattle.sheet_check.specs.inside.Accepting.{FieldBroke, Finds, NotPut, NotTaken, ShownTook, fault_of_acceptance, storing};
 ghost use Rattle.sheet_check.specs.inside.Checking.{question};
@@ -217,12 +217,12 @@ pub(crate) fn accept_shown<D: Disk, S: Disk, C: Sources, W: Write, P: Progress>(
     ensures written { store.old.gathers ≡ false → store.new.gathers ≡ false }
     ensures ok { (w : World) → IsHost driver.old.host w → (ops more : List Op) → (disk : DiskView)
         → Stores ops more disk store.old → IfOk result (ShownTook
-        (to_accept (way C.after C.clock C.wakes turn.now.manner.request.now.limit) turn.now.manner.request.now.chosen)
+        (accepting_by C.after C.clock C.wakes turn.now.manner.request.now)
         (question 0 turn.now.field.now) (at w driver.old.sources driver.old.host.store.disk)
         (left driver.new.host driver.new.sources (W.contents writer.old) (W.contents writer.new)) (storing ops more disk store.new)) }
     ensures err { (w : World) → IsHost driver.old.host w → (ops more : List Op) → (disk : DiskView)
         → Stores ops more disk store.old → IfErr result (FieldBroke
-        (to_accept (way C.after C.clock C.wakes turn.now.manner.request.now.limit) turn.now.manner.request.now.chosen)
+        (accepting_by C.after C.clock C.wakes turn.now.manner.request.now)
         turn.now.field.now (at w driver.old.sources driver.old.host.store.disk)
         (left driver.new.host driver.new.sources (W.contents writer.old) (W.contents writer.new)) (storing ops more disk store.new)) }
     ensures room { IfOk result (λ j.

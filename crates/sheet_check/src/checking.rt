@@ -12,12 +12,12 @@ ghost use Rattle.journal.specs.declared.opening.OpenCause.TheVariants as opens;
 ghost use Rattle.check_report.specs.Chosen.{is_chosen};
 ghost use Rattle.check_report.specs.Reports.{opening_text};
 ghost use Rattle.check_report.specs.Verdicts.{total};
-ghost use Rattle.sheet_check.specs.Evaluated.{one_by_one, way};
 ghost use Rattle.sheet_check.specs.Check.{CheckAnswer, OnlyRead, SheetAnswer, passage};
 ghost use Rattle.sheet_check.specs.declared.named.CheckFault.TheVariants as named;
 ghost use Rattle.sheet_check.specs.Progress.{CheckShows, FieldsLeft, FieldsShow, LeavesLine, MakesRoom, SheetShows, checked_count, display};
 ghost use Rattle.sheet_check.specs.inside.Checking.{FieldFailed, FieldShown, FieldWrote, FieldsEnded, FieldsFailed, FieldsStopped, FieldsWrote, OnCopy, ShownWrote, question};
 ghost use Rattle.live.specs.Records.{left};
+ghost use Rattle.sheet_check.specs.Evaluated.{checking_by};
 
 use crate::closing::tell_counts;
 use crate::copying::open_copy;
@@ -49,11 +49,11 @@ fn check_shown<D: Disk, C: Sources, W: Write, P: Progress>(
     requires chosen { is_chosen turn.now.manner.request.now.chosen turn.now.field.now ≡ true }
     requires few { total turn.now.counts < 2 ^ 31 }
     ensures ok { (w : World) → IsHost driver.old.host w → IfOk result (ShownWrote
-        (one_by_one (way C.after C.clock C.wakes turn.now.manner.request.now.limit) turn.now.manner.request.now.chosen turn.now.manner.request.now.format)
+        (checking_by C.after C.clock C.wakes turn.now.manner.request.now)
         (question (total turn.now.counts + 1) turn.now.field.now) (at w driver.old.sources driver.old.host.store.disk)
         (left driver.new.host driver.new.sources (W.contents writer.old) (W.contents writer.new))) }
     ensures err { (w : World) → IsHost driver.old.host w → IfErr result (FieldFailed
-        (one_by_one (way C.after C.clock C.wakes turn.now.manner.request.now.limit) turn.now.manner.request.now.chosen turn.now.manner.request.now.format)
+        (checking_by C.after C.clock C.wakes turn.now.manner.request.now)
         turn.now.field.now (at w driver.old.sources driver.old.host.store.disk)
         (left driver.new.host driver.new.sources (W.contents writer.old) (W.contents writer.new))) }
     ensures room { IfOk result (λ j.
@@ -83,13 +83,13 @@ fn check_field<D: Disk, C: Sources, W: Write, P: Progress>(
     requires few { total turn.now.counts < 2 ^ 31 }
     requires errors { turn.now.counts.errors ≤ total turn.now.counts }
     ensures ok { (w : World) → IsHost driver.old.host w → IfOk result (FieldWrote
-        (one_by_one (way C.after C.clock C.wakes turn.now.manner.request.now.limit) turn.now.manner.request.now.chosen turn.now.manner.request.now.format)
+        (checking_by C.after C.clock C.wakes turn.now.manner.request.now)
         turn.now.field.now (at w driver.old.sources driver.old.host.store.disk)
         (left driver.new.host driver.new.sources (W.contents writer.old) (W.contents writer.new)) turn.now.counts) }
     ensures bound { IfOk result (λ after. total after ≤ total turn.now.counts + 1) }
     ensures errors { IfOk result (λ after. after.errors ≤ total after) }
     ensures err { (w : World) → IsHost driver.old.host w → IfErr result (FieldFailed
-        (one_by_one (way C.after C.clock C.wakes turn.now.manner.request.now.limit) turn.now.manner.request.now.chosen turn.now.manner.request.now.format)
+        (checking_by C.after C.clock C.wakes turn.now.manner.request.now)
         turn.now.field.now (at w driver.old.sources driver.old.host.store.disk)
         (left driver.new.host driver.new.sources (W.contents writer.old) (W.contents writer.new))) }
     ensures shown { IfOk result (λ after.
@@ -124,11 +124,11 @@ fn check_fields<D: Disk, C: Sources, W: Write, P: Progress>(
 ) -> Result<Counts, RunFault>
     requires { length sheet.now.contents.fields < 2 ^ 31 }
     ensures ok { (w : World) → IsHost driver.old.host w → IfOk result (FieldsWrote
-        (one_by_one (way C.after C.clock C.wakes manner.now.request.now.limit) manner.now.request.now.chosen manner.now.request.now.format)
+        (checking_by C.after C.clock C.wakes manner.now.request.now)
         sheet.now.contents.fields (at w driver.old.sources driver.old.host.store.disk)
         (left driver.new.host driver.new.sources (W.contents writer.old) (W.contents writer.new))) }
     ensures err { (w : World) → IsHost driver.old.host w → IfErr result (FieldsFailed
-        (one_by_one (way C.after C.clock C.wakes manner.now.request.now.limit) manner.now.request.now.chosen manner.now.request.now.format)
+        (checking_by C.after C.clock C.wakes manner.now.request.now)
         sheet.now.contents.fields (at w driver.old.sources driver.old.host.store.disk)
         (left driver.new.host driver.new.sources (W.contents writer.old) (W.contents writer.new))) }
     ensures shown { IfOk result (λ counts.
@@ -169,11 +169,11 @@ fn check_and_stop<D: Disk, C: Sources, W: Write, P: Progress>(
 ) -> Result<Counts, RunFault>
     requires { length sheet.now.contents.fields < 2 ^ 31 }
     ensures ok { (w : World) → IsHost driver.old.host w → IfOk result (FieldsEnded
-        (one_by_one (way C.after C.clock C.wakes manner.now.request.now.limit) manner.now.request.now.chosen manner.now.request.now.format)
+        (checking_by C.after C.clock C.wakes manner.now.request.now)
         sheet.now.contents.fields w driver.old.host.store.disk
         (passage driver.old.sources driver.new.sources (W.contents writer.old) (W.contents writer.new))) }
     ensures err { (w : World) → IsHost driver.old.host w → IfErr result (FieldsStopped
-        (one_by_one (way C.after C.clock C.wakes manner.now.request.now.limit) manner.now.request.now.chosen manner.now.request.now.format)
+        (checking_by C.after C.clock C.wakes manner.now.request.now)
         sheet.now.contents.fields w driver.old.host.store.disk
         (passage driver.old.sources driver.new.sources (W.contents writer.old) (W.contents writer.new))) }
     ensures shown { SheetShows (display manner.now.request.now.format P.shows)
@@ -199,7 +199,7 @@ fn checked_on_copy<C: Sources, W: Write, P: Progress>(
     ensures none { IfNone result.answer ((result.sources ≡ sources) × (writer.new ≡ writer.old)
         × (progress.new ≡ progress.old)) }
     ensures some { IfSome result.answer (λ counted. OnCopy
-        (one_by_one (way C.after C.clock C.wakes manner.now.request.now.limit) manner.now.request.now.chosen manner.now.request.now.format)
+        (checking_by C.after C.clock C.wakes manner.now.request.now)
         sheet.now.contents
         (passage sources result.sources (W.contents writer.old) (W.contents writer.new)) counted) }
     ensures shown { IfSome result.answer (λ counted. SheetShows (display manner.now.request.now.format P.shows)
@@ -230,7 +230,7 @@ pub(crate) fn check_sheet<C: Sources, W: Write, P: Progress>(
 ) -> Gave<Result<Counts, RunFault>, C>
     requires { (ops : List Op) × Makes ops sheet.now.contents }
     ensures checked { SheetAnswer
-        (one_by_one (way C.after C.clock C.wakes manner.now.request.now.limit) manner.now.request.now.chosen manner.now.request.now.format)
+        (checking_by C.after C.clock C.wakes manner.now.request.now)
         sheet.now.contents (passage sources result.sources (W.contents writer.old) (W.contents writer.new))
         ((writer.new ≡ writer.old) × (result.sources ≡ sources)) result.answer }
     ensures shown { SheetShows (display manner.now.request.now.format P.shows)
@@ -284,7 +284,7 @@ pub fn check<D: Disk, C: Sources, W: Write, P: Progress>(
     writer: &mut W,
 ) -> Checked<D, C>
     ensures checked { CheckAnswer
-        (one_by_one (way C.after C.clock C.wakes manner.now.request.now.limit) manner.now.request.now.chosen manner.now.request.now.format)
+        (checking_by C.after C.clock C.wakes manner.now.request.now)
         (D.view disk) (passage sources result.sources (W.contents writer.old) (W.contents writer.new))
         ((writer.new ≡ writer.old) × (result.sources ≡ sources)) result.answer }
     ensures read { OnlyRead (D.view disk) (D.view result.disk) }

@@ -11,7 +11,7 @@ use arrivals::Sources;
 use block_tree::Sequence;
 use disk_model::Disk;
 use driver::Driver;
-use evaluation::{Plan, Which};
+use evaluation::{Plan, Spared, Which};
 use field_agenda::ByFields;
 use offline_programs::RunFault;
 use session_engine::Host;
@@ -26,7 +26,7 @@ pub(crate) fn checking_plan(ids: Vec<u32>, limit: Option<u32>, jobs: u32) -> Pla
 {
     Plan {
         which: Which::Named(Sequence::from_vec(ids)),
-        unanswered: false,
+        spared: Spared::Nothing,
         strict: false,
         at_errors: false,
         limit,

@@ -1,6 +1,6 @@
 //! What a check lends a driver: programs of which none is looked for, and a sink that prints nothing.
 ghost use Rattle.std.specs.Prelude.{◌≡◌, ◌++◌, ◌∷◌, [], IfErr, OnOk};
-ghost use Rattle.sheet_check.specs.Marks.{line_marks, note_marks, refusal_marks, reply_marks, shown_marks};
+ghost use Rattle.sheet_check.specs.Marks.{KeptFront, line_marks, note_marks, refusal_marks, reply_marks, shown_marks};
 
 use block_tree::Sequence;
 use disk_model::Disk;
@@ -48,6 +48,7 @@ impl Marks {
     fn keep(&mut self, mark: Mark) -> Result<(), RunFault>
         ensures ok { OnOk result (self.new.kept ≡ self.old.kept ++ mark ∷ []) }
         ensures err { IfErr result (λ why. why ≡ RunFault.OutOfMemory) }
+        ensures unkept { IfErr result (λ why. self.new.kept ≡ self.old.kept) }
     {
         match self.kept.push(mark) {
             Ok(()) => Ok(()),
@@ -59,6 +60,7 @@ impl Marks {
     fn keep_refusal(&mut self, why: Refusal) -> Result<(), RunFault>
         ensures ok { OnOk result (self.new.kept ≡ self.old.kept ++ refusal_marks why) }
         ensures err { IfErr result (λ why. why ≡ RunFault.OutOfMemory) }
+        ensures unkept { IfErr result (λ why. self.new.kept ≡ self.old.kept) }
     {
         match why {
             Refusal::OutOfMemory => self.keep(Mark::NoMemory),
@@ -70,6 +72,7 @@ impl Marks {
     fn keep_reply(&mut self, reply: &Reply) -> Result<(), RunFault>
         ensures ok { OnOk result (self.new.kept ≡ self.old.kept ++ reply_marks reply.now) }
         ensures err { IfErr result (λ why. why ≡ RunFault.OutOfMemory) }
+        ensures unkept { IfErr result (λ why. self.new.kept ≡ self.old.kept) }
     {
         match reply {
             Reply::Asked(_) => self.keep(Mark::Asked),
@@ -82,6 +85,7 @@ impl Marks {
     fn keep_lines(&mut self, outcomes: &[Outcome]) -> Result<(), RunFault>
         ensures ok { OnOk result (self.new.kept ≡ self.old.kept ++ line_marks outcomes.now) }
         ensures err { IfErr result (λ why. why ≡ RunFault.OutOfMemory) }
+        ensures cut { IfErr result (λ why. KeptFront self.old.kept self.new.kept (line_marks outcomes.now)) }
     {
         for outcome in outcomes {
             if let Err(fault) = self.keep_reply(&outcome.reply) {
@@ -95,6 +99,7 @@ impl Marks {
     fn keep_noted(&mut self, note: Note) -> Result<(), RunFault>
         ensures ok { OnOk result (self.new.kept ≡ self.old.kept ++ note_marks note) }
         ensures err { IfErr result (λ why. why ≡ RunFault.OutOfMemory) }
+        ensures unkept { IfErr result (λ why. self.new.kept ≡ self.old.kept) }
     {
         match note {
             Note::Over(id, _) => self.keep(Mark::Over(id)),
@@ -112,6 +117,7 @@ impl Marks {
     fn keep_shown(&mut self, show: Show) -> Result<(), RunFault>
         ensures ok { OnOk result (self.new.kept ≡ self.old.kept ++ shown_marks show) }
         ensures err { IfErr result (λ why. why ≡ RunFault.OutOfMemory) }
+        ensures unkept { IfErr result (λ why. self.new.kept ≡ self.old.kept) }
     {
         match show {
             Show::Note(note) => self.keep_noted(note),

@@ -5,15 +5,15 @@ ghost use Rattle.worksheet.specs.declared.op.Op.{Op};
 ghost use Rattle.recovery.specs.Sheets.{Makes};
 ghost use Rattle.check_report.specs.declared.report.Format.TheVariants as formats;
 ghost use Rattle.evaluation.specs.Meant as meant;
-ghost use Rattle.sheet_check.specs.Accept.{SheetAccepts, filing, to_accept};
+ghost use Rattle.sheet_check.specs.Accept.{SheetAccepts, accepting_by, filing};
 ghost use Rattle.sheet_check.specs.Check.{SheetAnswer, passage};
-ghost use Rattle.sheet_check.specs.Evaluated.{one_by_one, way};
 ghost use Rattle.sheet_check.specs.Kept.{Stores};
 ghost use Rattle.sheet_check.specs.Named.{ByNames, missing_named};
 ghost use Rattle.sheet_check.specs.Named as named;
 ghost use Rattle.sheet_check.specs.Progress.{SheetShows, checked_count, display};
-ghost use Rattle.sheet_check.specs.Together.{TellsBySessions, side_by_side};
+ghost use Rattle.sheet_check.specs.Together.{TellsBySessions, together_by};
 ghost use Rattle.sheet_check.specs.inside.Accepting.{GoesOn};
+ghost use Rattle.sheet_check.specs.Evaluated.{checking_by};
 
 use crate::accept_fields::accept_sheet;
 use crate::checking::check_sheet;
@@ -123,7 +123,7 @@ pub(crate) fn check_named<C: Sources, W: Write, P: Progress>(
     ensures checked { ByNames (missing_named manner.now.request.now.chosen sheet.now.contents.fields)
         ((writer.new ≡ writer.old) × (result.sources ≡ sources))
         (SheetAnswer
-        (one_by_one (way C.after C.clock C.wakes manner.now.request.now.limit) manner.now.request.now.chosen manner.now.request.now.format)
+        (checking_by C.after C.clock C.wakes manner.now.request.now)
         sheet.now.contents (passage sources result.sources (W.contents writer.old) (W.contents writer.new))
         ((writer.new ≡ writer.old) × (result.sources ≡ sources))) result.answer }
     ensures shown { ByNames (missing_named manner.now.request.now.chosen sheet.now.contents.fields)
@@ -158,7 +158,7 @@ pub(crate) fn check_named_together<C: Sources, W: Write, P: Progress>(
     ensures checked { ByNames (missing_named beside.now.manner.request.now.chosen sheet.now.contents.fields)
         ((writer.new ≡ writer.old) × (result.sources ≡ sources))
         (TellsBySessions
-        (side_by_side (way C.after C.clock C.wakes beside.now.manner.request.now.limit) beside.now.jobs beside.now.manner.request.now.chosen beside.now.manner.request.now.format)
+        (together_by C.after C.clock C.wakes beside.now.jobs beside.now.manner.request.now)
         sheet.now.contents (passage sources result.sources (W.contents writer.old) (W.contents writer.new))
         ((writer.new ≡ writer.old) × (result.sources ≡ sources))) result.answer }
     ensures shown { ByNames (missing_named beside.now.manner.request.now.chosen sheet.now.contents.fields)
@@ -198,7 +198,7 @@ pub(crate) fn accept_named<S: Disk, C: Sources, W: Write, P: Progress>(
         → ByNames (missing_named manner.now.request.now.chosen store.old.sheet.contents.fields)
         (((writer.new ≡ writer.old) × (result.sources ≡ sources)) × (store.new ≡ store.old))
         (SheetAccepts
-        (to_accept (way C.after C.clock C.wakes manner.now.request.now.limit) manner.now.request.now.chosen)
+        (accepting_by C.after C.clock C.wakes manner.now.request.now)
         store.old.sheet.contents
         (passage sources result.sources (W.contents writer.old) (W.contents writer.new))
         ((writer.new ≡ writer.old) × (result.sources ≡ sources)) (filing ops disk store.new.disk)) result.answer }

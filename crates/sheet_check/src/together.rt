@@ -9,11 +9,10 @@ ghost use Rattle.disk_model.specs.Disk.{Rises};
 ghost use Rattle.offline_programs.specs.declared.fault.RunFault.TheVariants as reported;
 ghost use Rattle.journal.specs.declared.opening.OpenCause.TheVariants as opens;
 ghost use Rattle.live.specs.Records.{left};
-ghost use Rattle.sheet_check.specs.Evaluated.{way};
 ghost use Rattle.sheet_check.specs.Check.{IsCopy, OnlyRead, passage};
 ghost use Rattle.sheet_check.specs.declared.named.CheckFault.TheVariants as named;
 ghost use Rattle.sheet_check.specs.Progress.{CheckShows, FieldsLeft, FieldsShow, SheetShows, checked_count, display};
-ghost use Rattle.sheet_check.specs.Together.{TellsBySessions, TellsTogether, TogetherAnswer, TogetherTells, cleared, side_by_side};
+ghost use Rattle.sheet_check.specs.Together.{TellsBySessions, TellsTogether, TogetherAnswer, TogetherTells, cleared, together_by};
 ghost use Rattle.sheet_check.specs.inside.Comparing.{BrokeTogether, CameTogether, EndedTogether, FailedTogether, OnCleared, ReportedTogether};
 
 use crate::checking::{Checked, check_sheet};
@@ -45,10 +44,10 @@ fn evaluate_checked<D: Disk, C: Sources>(
 ) -> Result<(), RunFault>
     requires { (w : World) × IsHost driver.old.host w }
     ensures ok { (w : World) → IsHost driver.old.host w → IfOk result (λ done. CameTogether
-        (side_by_side (way C.after C.clock C.wakes beside.now.manner.request.now.limit) beside.now.jobs beside.now.manner.request.now.chosen beside.now.manner.request.now.format)
+        (together_by C.after C.clock C.wakes beside.now.jobs beside.now.manner.request.now)
         sheet.now.contents.fields (at w driver.old.sources driver.old.host.store.disk) driver.new.host driver.new.sources driver.new.sink.kept) }
     ensures err { (w : World) → IsHost driver.old.host w → IfErr result (BrokeTogether
-        (side_by_side (way C.after C.clock C.wakes beside.now.manner.request.now.limit) beside.now.jobs beside.now.manner.request.now.chosen beside.now.manner.request.now.format)
+        (together_by C.after C.clock C.wakes beside.now.jobs beside.now.manner.request.now)
         sheet.now.contents.fields (at w driver.old.sources driver.old.host.store.disk) driver.new.host driver.new.sources) }
 {
     let manner = beside.manner;
@@ -73,11 +72,11 @@ fn check_together_on<D: Disk, C: Sources, W: Write, P: Progress>(
     requires few { length sheet.now.contents.fields < 2 ^ 31 }
     requires stands { (w : World) × IsHost driver.old.host w }
     ensures ok { (w : World) → IsHost driver.old.host w → IfOk result (ReportedTogether
-        (side_by_side (way C.after C.clock C.wakes beside.now.manner.request.now.limit) beside.now.jobs beside.now.manner.request.now.chosen beside.now.manner.request.now.format)
+        (together_by C.after C.clock C.wakes beside.now.jobs beside.now.manner.request.now)
         sheet.now.contents.fields (at w driver.old.sources driver.old.host.store.disk)
         (left driver.new.host driver.new.sources (W.contents writer.old) (W.contents writer.new))) }
     ensures err { (w : World) → IsHost driver.old.host w → IfErr result (FailedTogether
-        (side_by_side (way C.after C.clock C.wakes beside.now.manner.request.now.limit) beside.now.jobs beside.now.manner.request.now.chosen beside.now.manner.request.now.format)
+        (together_by C.after C.clock C.wakes beside.now.jobs beside.now.manner.request.now)
         sheet.now.contents.fields (at w driver.old.sources driver.old.host.store.disk)
         (left driver.new.host driver.new.sources (W.contents writer.old) (W.contents writer.new))) }
     ensures shown { IfOk result (λ counts.
@@ -106,12 +105,12 @@ fn check_together_and_stop<D: Disk, C: Sources, W: Write, P: Progress>(
     ensures ok { (w : World) → IsHost driver.old.host w
         → IsCopy (cleared beside.now.manner.request.now.chosen sheet.now.contents.fields sheet.now.contents) w driver.old.host.store.disk
         → IfOk result (EndedTogether
-        (side_by_side (way C.after C.clock C.wakes beside.now.manner.request.now.limit) beside.now.jobs beside.now.manner.request.now.chosen beside.now.manner.request.now.format)
+        (together_by C.after C.clock C.wakes beside.now.jobs beside.now.manner.request.now)
         sheet.now.contents (passage driver.old.sources driver.new.sources (W.contents writer.old) (W.contents writer.new))) }
     ensures err { (w : World) → IsHost driver.old.host w
         → IsCopy (cleared beside.now.manner.request.now.chosen sheet.now.contents.fields sheet.now.contents) w driver.old.host.store.disk
         → IfErr result (TellsTogether
-        (side_by_side (way C.after C.clock C.wakes beside.now.manner.request.now.limit) beside.now.jobs beside.now.manner.request.now.chosen beside.now.manner.request.now.format)
+        (together_by C.after C.clock C.wakes beside.now.jobs beside.now.manner.request.now)
         sheet.now.contents (passage driver.old.sources driver.new.sources (W.contents writer.old) (W.contents writer.new)) ⊥) }
     ensures shown { SheetShows (display beside.now.manner.request.now.format P.shows)
         (checked_count beside.now.manner.request.now.chosen sheet.now.contents.fields)
@@ -136,7 +135,7 @@ fn together_on_copy<C: Sources, W: Write, P: Progress>(
     ensures none { IfNone result.answer ((result.sources ≡ sources) × (writer.new ≡ writer.old)
         × (progress.new ≡ progress.old)) }
     ensures some { IfSome result.answer (OnCleared
-        (side_by_side (way C.after C.clock C.wakes beside.now.manner.request.now.limit) beside.now.jobs beside.now.manner.request.now.chosen beside.now.manner.request.now.format)
+        (together_by C.after C.clock C.wakes beside.now.jobs beside.now.manner.request.now)
         sheet.now.contents (passage sources result.sources (W.contents writer.old) (W.contents writer.new))) }
     ensures shown { IfSome result.answer (λ counted. SheetShows (display beside.now.manner.request.now.format P.shows)
         (checked_count beside.now.manner.request.now.chosen sheet.now.contents.fields)
@@ -167,7 +166,7 @@ fn check_sheet_together<C: Sources, W: Write, P: Progress>(
 ) -> Gave<Result<Counts, RunFault>, C>
     requires { (ops : List Op) × Makes ops sheet.now.contents }
     ensures checked { TogetherTells
-        (side_by_side (way C.after C.clock C.wakes beside.now.manner.request.now.limit) beside.now.jobs beside.now.manner.request.now.chosen beside.now.manner.request.now.format)
+        (together_by C.after C.clock C.wakes beside.now.jobs beside.now.manner.request.now)
         sheet.now.contents (passage sources result.sources (W.contents writer.old) (W.contents writer.new))
         ((writer.new ≡ writer.old) × (result.sources ≡ sources)) result.answer }
     ensures shown { SheetShows (display beside.now.manner.request.now.format P.shows)
@@ -193,7 +192,7 @@ pub(crate) fn check_by_sessions<C: Sources, W: Write, P: Progress>(
 ) -> Gave<Result<Counts, RunFault>, C>
     requires { (ops : List Op) × Makes ops sheet.now.contents }
     ensures checked { TellsBySessions
-        (side_by_side (way C.after C.clock C.wakes beside.now.manner.request.now.limit) beside.now.jobs beside.now.manner.request.now.chosen beside.now.manner.request.now.format)
+        (together_by C.after C.clock C.wakes beside.now.jobs beside.now.manner.request.now)
         sheet.now.contents (passage sources result.sources (W.contents writer.old) (W.contents writer.new))
         ((writer.new ≡ writer.old) × (result.sources ≡ sources)) result.answer }
     ensures shown { SheetShows (display beside.now.manner.request.now.format P.shows)
@@ -233,7 +232,7 @@ pub fn check_together<D: Disk, C: Sources, W: Write, P: Progress>(
     writer: &mut W,
 ) -> Checked<D, C>
     ensures checked { TogetherAnswer
-        (side_by_side (way C.after C.clock C.wakes beside.now.manner.request.now.limit) beside.now.jobs beside.now.manner.request.now.chosen beside.now.manner.request.now.format)
+        (together_by C.after C.clock C.wakes beside.now.jobs beside.now.manner.request.now)
         (D.view disk) (passage sources result.sources (W.contents writer.old) (W.contents writer.new))
         ((writer.new ≡ writer.old) × (result.sources ≡ sources)) result.answer }
     ensures read { OnlyRead (D.view disk) (D.view result.disk) }

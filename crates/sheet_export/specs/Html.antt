@@ -12,6 +12,7 @@ use Rattle.sheet_text.specs.Blocks.{sign, is_bare}
 use Rattle.sheet_text.specs.InputLines.{lines_of_input, text_of_lines}
 use Rattle.sheet_text.specs.Replies.{reason_name}
 use Rattle.sheet_text.specs.Texts.{prompt_shown}
+use Rattle.sheet_notebook.specs.Empty.{shows_nothing}
 use Rattle.sheet_notebook.specs.Pictures.{is_error_tag, is_output_tag, picture_named, picture_of}
 use Rattle.sheet_export.specs.Pictures.{picture_html}
 use Rattle.sheet_export.specs.References.{html_text}
@@ -72,9 +73,13 @@ lines_html input = text_of_lines (html_text false) (10 ∷ []) (lines_of_input i
 abbrev pub input_html : Field → List ℕ
 input_html field = part.input_start ++ html_text false (prompt_shown field.answer) ++ part.prompt_end ++ lines_html field.input ++ part.input_end
 
--- the output
+-- an output in its element
+abbrev pub element_html : Tree → List ℕ
+element_html output = part.output_start ++ block_html false output ++ part.output_end
+
+-- the output, if it shows something
 abbrev pub answer_html : Answer → List ℕ
-answer_html answer = part.output_start ++ block_html false answer.output ++ part.output_end
+answer_html answer = cond (shows_nothing answer.output) [] (element_html answer.output)
 
 -- why a field lost its line
 abbrev pub reason_html : Reason → List ℕ
@@ -85,7 +90,7 @@ abbrev pub no_answer_html : Option Reason → List ℕ
 no_answer_html None = part.no_answer
 no_answer_html (Some reason) = reason_html reason
 
--- the output, or a mark that there is none
+-- the output, or a mark that there is no answer
 abbrev pub output_html : Option Answer → Option Reason → List ℕ
 output_html None lost = no_answer_html lost
 output_html (Some answer) lost = answer_html answer

@@ -1,5 +1,5 @@
 -- A worksheet as Markdown.
-use Rattle.std.specs.Prelude.{ℕ, List, [], ◌∷◌, ◌++◌, Option, Some, None, codes}
+use Rattle.std.specs.Prelude.{ℕ, Bool, false, List, [], ◌∷◌, ◌++◌, Option, Some, None, codes, cond}
 use Rattle.std.specs.List.{flat_map}
 use Rattle.block_tree.specs.declared.reason.Reason.{Reason}
 use Rattle.worksheet.specs.Contents.{Contents}
@@ -11,6 +11,7 @@ use Rattle.sheet_text.specs.InputLines.{lines_of_input, text_of_lines}
 use Rattle.sheet_text.specs.Replies.{reason_name}
 use Rattle.sheet_text.specs.Texts.{in_lines}
 use Rattle.sheet_export.specs.Fences.{fenced}
+use Rattle.sheet_notebook.specs.Empty.{shows_nothing}
 use Rattle.sheet_notebook.specs.Formulas.{formula_after, formula_of}
 
 -- the lines of an input
@@ -45,9 +46,18 @@ abbrev pub output_markdown : Option Answer → Option Reason → List ℕ
 output_markdown None lost = no_answer_markdown lost
 output_markdown (Some answer) lost = answer_markdown (formula_after answer.output) answer
 
+-- whether there is an answer, and it shows nothing
+abbrev pub answers_nothing : Option Answer → Bool
+answers_nothing None = false
+answers_nothing (Some answer) = shows_nothing answer.output
+
+-- an empty line, and the output, or that there is none; nothing where an answer shows nothing
+abbrev pub outcome_markdown : Field → List ℕ
+outcome_markdown field = cond (answers_nothing field.answer) [] (10 ∷ output_markdown field.answer field.lost)
+
 -- a field
 unfoldable pub field_markdown : Field → List ℕ
-field_markdown field = input_markdown field ++ 10 ∷ [] ++ output_markdown field.answer field.lost
+field_markdown field = input_markdown field ++ outcome_markdown field
 
 -- fields, each after an empty line
 abbrev pub fields_after : List Field → List ℕ

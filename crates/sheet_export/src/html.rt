@@ -15,7 +15,7 @@ use crate::pictures::write_picture;
 use crate::references::write_text;
 use crate::style::STYLE;
 use block_tree::{Block, Item, Node, Reason, Tag};
-use sheet_notebook::{is_error_tag, is_output_tag, picture_text};
+use sheet_notebook::{is_error_tag, is_output_tag, picture_text, shows_nothing};
 use sheet_text::{WriteFault, is_bare_tag, next_line, reason_name};
 use std::io::Write;
 use worksheet::{Answer, Field, Sheet};
@@ -196,15 +196,27 @@ fn write_input<W: Write>(field: &Field, out: &mut W) -> Result<(), WriteFault>
     Ok(())
 }
 
-/// Writes an output.
+/// Writes an output in its element.
+fn write_element<W: Write>(output: &Block, out: &mut W) -> Result<(), WriteFault>
+    ensures { OnOk result
+        (Appends (W.contents out.old) (W.contents out.new) (html.element_html output.now)) }
+{
+    write_bytes(fixed::OUTPUT_START, out)?;
+    write_block(output, out)?;
+    write_bytes(fixed::OUTPUT_END, out)?;
+    Ok(())
+}
+
+/// Writes an output, if it shows something.
+#[tactic(auto, using(crate::proofs::Appending::steps))]
 fn write_answer<W: Write>(answer: &Answer, out: &mut W) -> Result<(), WriteFault>
     ensures { OnOk result
         (Appends (W.contents out.old) (W.contents out.new) (html.answer_html answer.now)) }
 {
-    write_bytes(fixed::OUTPUT_START, out)?;
-    write_block(&answer.output, out)?;
-    write_bytes(fixed::OUTPUT_END, out)?;
-    Ok(())
+    if shows_nothing(&answer.output) {
+        return Ok(());
+    }
+    write_element(&answer.output, out)
 }
 
 /// Writes the name of a reason.
@@ -236,7 +248,7 @@ fn write_no_answer<W: Write>(lost: Option<Reason>, out: &mut W) -> Result<(), Wr
     }
 }
 
-/// Writes an output, or a mark that there is none.
+/// Writes an output, or a mark that there is no answer.
 fn write_output<W: Write>(
     answer: &Option<Answer>,
     lost: Option<Reason>,

@@ -1,5 +1,5 @@
 //! A worksheet as Markdown.
-ghost use Rattle.std.specs.Prelude.{◌++◌, ◌∷◌, [], OnOk};
+ghost use Rattle.std.specs.Prelude.{◌≡◌, ◌++◌, ◌∷◌, [], OnOk};
 ghost use Rattle.std.specs.Io.KnownBytes.{Appends};
 ghost use Rattle.sheet_export.specs.Fences.{fenced_by};
 ghost use Rattle.sheet_export.specs.Markdown as markdown;
@@ -10,7 +10,7 @@ use crate::fences::{line_fence, output_fence, text_fence, write_fence};
 use crate::fixed::write_bytes;
 use crate::html::write_reason_name;
 use block_tree::Reason;
-use sheet_notebook::{formula_after, formula_of};
+use sheet_notebook::{formula_after, formula_of, shows_nothing};
 use sheet_text::{WriteFault, write_input_lines, write_output as write_lines, write_text};
 use std::io::Write;
 use worksheet::{Answer, Field, Sheet};
@@ -162,14 +162,37 @@ fn write_output<W: Write>(
     write_shown(length, answer, lost, out)
 }
 
+/// Whether there is an answer, and it shows nothing.
+fn answers_nothing(answer: &Option<Answer>) -> bool
+    ensures { result ≡ markdown.answers_nothing answer.now }
+{
+    match answer {
+        None => false,
+        Some(given) => shows_nothing(&given.output),
+    }
+}
+
+/// Writes an output, or that there is none, after an empty line, and nothing where an answer shows nothing.
+#[tactic(auto, using(crate::proofs::Appending::steps))]
+fn write_outcome<W: Write>(field: &Field, out: &mut W) -> Result<(), WriteFault>
+    ensures { OnOk result
+        (Appends (W.contents out.old) (W.contents out.new) (markdown.outcome_markdown field.now)) }
+{
+    if answers_nothing(&field.answer) {
+        return Ok(());
+    }
+    write_bytes(b"\n", out)?;
+    write_output(&field.answer, field.lost, out)?;
+    Ok(())
+}
+
 /// Writes a field.
 fn write_field<W: Write>(field: &Field, out: &mut W) -> Result<(), WriteFault>
     ensures { OnOk result
         (Appends (W.contents out.old) (W.contents out.new) (markdown.field_markdown field.now)) }
 {
     write_input(field, out)?;
-    write_bytes(b"\n", out)?;
-    write_output(&field.answer, field.lost, out)?;
+    write_outcome(field, out)?;
     Ok(())
 }
 
@@ -187,6 +210,7 @@ fn write_next<W: Write>(field: &Field, out: &mut W) -> Result<(), WriteFault>
 
 /// Writes a worksheet as Markdown: for each field its input as code of its session, and its output as
 /// code, or as the formula that it is, with the text that was printed in front of it, or a note that there is none.
+/// An output that shows nothing is left out.
 ///
 /// After a `WriteFault` a part of the text may have gone out.
 #[tactic(auto, using(crate::proofs::FieldsAfter::markdown_steps))]

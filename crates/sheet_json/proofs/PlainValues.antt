@@ -235,9 +235,9 @@ tellings_are_plain (reported.whole ids next sessions) s = an_object (a_member (i
 tellings_are_plain (reported.fault n name None) s = an_object (a_member a_text (a_member (a_count s) a_type))
 tellings_are_plain (reported.fault n name (Some offset)) s = an_object (a_member a_text (a_member (a_count s.0) (a_member (a_count s.1) a_type)))
 tellings_are_plain (reported.over id outcome) s = an_object (a_member (a_count s) (a_member a_text a_type))
-tellings_are_plain (reported.counted answered unanswered) s = an_object (a_member (a_count s.0) (a_member a_text (a_member (a_count s.1) no_more)))
-tellings_are_plain (reported.counted_in_time answered unanswered over passed) s =
-    an_object (a_member (a_count s.0) (a_member (a_count s.2) (a_member (a_count s.3) (a_member a_text (a_member (a_count s.1) no_more)))))
+tellings_are_plain (reported.counted answered unanswered errors) s = an_object (a_member (a_count s.0) (a_member (a_count s.2) (a_member a_text (a_member (a_count s.1) no_more))))
+tellings_are_plain (reported.counted_in_time answered unanswered errors over passed) s =
+    an_object (a_member (a_count s.0) (a_member (a_count s.2) (a_member (a_count s.3) (a_member (a_count s.4) (a_member a_text (a_member (a_count s.1) no_more))))))
 tellings_are_plain (reported.checked id session took c) s = checked_plain id session took c s.0 s.1 s.2
 tellings_are_plain (reported.compared same differ unanswered left_out errors new) s =
     an_object (a_member (a_count s.1) (a_member (a_count s.4) (a_member (a_count s.3) (a_member (a_count s.5) (a_member (a_count s.0) (a_member a_text (a_member (a_count s.2) no_more)))))))

@@ -69,7 +69,7 @@ replies_read_back line (reported.interrupted outcome) = refl
 replies_read_back line (reported.undone first) = refl
 
 pub counts_read_back : CountsReadBack
-counts_read_back = ((λ a u. refl), (λ a u over passed. refl), (λ id outcome. refl))
+counts_read_back = ((λ a u e. refl), (λ a u e over passed. refl), (λ id outcome. refl))
 
 export_back : (text : Option (List ℕ)) → IfSome text IsBytes → option_in bytes_in (export_data text) ≡ Some text
 export_back None good = refl

@@ -41,8 +41,8 @@ SessionsReadBack = (s : SessionShown) → IsBytes s.name → AllByRecursion IsBy
 
 -- The counts of an evaluation read back, and that the time of a field was over.
 abbrev pub CountsReadBack : Type 0
-CountsReadBack = ((a u : ℕ) → counts_in (telling_data (reported.counted a u)) ≡ Some (reported.counted a u))
-    × ((a u over passed : ℕ) → counts_in (telling_data (reported.counted_in_time a u over passed)) ≡ Some (reported.counted_in_time a u over passed))
+CountsReadBack = ((a u e : ℕ) → counts_in (telling_data (reported.counted a u e)) ≡ Some (reported.counted a u e))
+    × ((a u e over passed : ℕ) → counts_in (telling_data (reported.counted_in_time a u e over passed)) ≡ Some (reported.counted_in_time a u e over passed))
     × ((id : ℕ) (outcome : List ℕ) → over_in (telling_data (reported.over id outcome)) ≡ Some (reported.over id outcome))
 
 -- What a field that was evaluated again came to reads back, and so do the counts of a check, the number that no field has, and the session whose

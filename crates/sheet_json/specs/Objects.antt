@@ -179,9 +179,11 @@ telling_data (reported.whole ids next sessions) = object (member (codes "fields"
 telling_data (reported.fault n name None) = object (member (codes "name") (string name) (member (codes "number") (count n) (typed (codes "fault"))))
 telling_data (reported.fault n name (Some offset)) = object (member (codes "name") (string name) (member (codes "number") (count n) (member (codes "offset") (count offset) (typed (codes "fault")))))
 telling_data (reported.over id outcome) = object (member (codes "id") (count id) (member (codes "outcome") (string outcome) (typed (codes "over"))))
-telling_data (reported.counted answered unanswered) = object (member (codes "answered") (count answered) (member (codes "type") (string (codes "counted")) (member (codes "unanswered") (count unanswered) no_members)))
-telling_data (reported.counted_in_time answered unanswered over passed) =
-    object (member (codes "answered") (count answered) (member (codes "over") (count over) (member (codes "passed") (count passed) (member (codes "type") (string (codes "counted")) (member (codes "unanswered") (count unanswered) no_members)))))
+telling_data (reported.counted answered unanswered errors) =
+    object (member (codes "answered") (count answered) (member (codes "errors") (count errors) (member (codes "type") (string (codes "counted")) (member (codes "unanswered") (count unanswered) no_members))))
+telling_data (reported.counted_in_time answered unanswered errors over passed) =
+    object (member (codes "answered") (count answered) (member (codes "errors") (count errors) (member (codes "over") (count over) (member (codes "passed") (count passed)
+    (member (codes "type") (string (codes "counted")) (member (codes "unanswered") (count unanswered) no_members))))))
 telling_data (reported.checked id session took c) = checked_data id session took c
 telling_data (reported.compared same differ unanswered left_out errors new) =
     object (member (codes "differ") (count differ) (member (codes "errors") (count errors) (member (codes "left_out") (count left_out) (member (codes "new") (count new) (member (codes "same") (count same)

@@ -135,9 +135,9 @@ reported_in d = option_and_then (λ name. reported_named name d) (member_in as_s
 
 -- the counts of an evaluation, by the member `over` if it has one
 abbrev pub counts_with : Option Data → Data → Option Telling
-counts_with None d = of (option_map (λ answered unanswered. reported.counted answered unanswered) (member_in count_in (codes "answered") d)) (member_in count_in (codes "unanswered") d)
+counts_with None d = of (of (option_map (λ answered unanswered errors. reported.counted answered unanswered errors) (member_in count_in (codes "answered") d)) (member_in count_in (codes "unanswered") d)) (member_in count_in (codes "errors") d)
 counts_with (Some over) d =
-    of (of (of (option_map (λ answered unanswered o passed. reported.counted_in_time answered unanswered o passed) (member_in count_in (codes "answered") d)) (member_in count_in (codes "unanswered") d))
+    of (of (of (of (option_map (λ answered unanswered errors o passed. reported.counted_in_time answered unanswered errors o passed) (member_in count_in (codes "answered") d)) (member_in count_in (codes "unanswered") d)) (member_in count_in (codes "errors") d))
     (count_in over)) (member_in count_in (codes "passed") d)
 
 abbrev pub counts_in : Data → Option Telling

@@ -88,10 +88,10 @@ pub data Telling : Type 0 where
   fault : ℕ → List ℕ → Option ℕ → Telling
   -- the limit of time of the field with this number was over, and its interpreter was interrupted: what came of that, as a word
   over : ℕ → List ℕ → Telling
-  -- at the end of an evaluation, how many fields show an answer and how many don't
-  counted : ℕ → ℕ → Telling
+  -- at the end of an evaluation, how many fields show an answer, how many don't, and how many show one that is an error
+  counted : ℕ → ℕ → ℕ → Telling
   -- the same, and for how many fields the limit of time was over, and how many were passed over
-  counted_in_time : ℕ → ℕ → ℕ → ℕ → Telling
+  counted_in_time : ℕ → ℕ → ℕ → ℕ → ℕ → Telling
   -- a field with this number, of this session, that a check evaluated, and what that took, where it is known
   checked : ℕ → List ℕ → Option Took → CheckReported → Telling
   -- at the end of a check, how many outputs were the same, how many differed, how many fields were unanswered and left out, how many answers

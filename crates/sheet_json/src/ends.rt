@@ -37,13 +37,26 @@ pub fn over_value(alloc: Global, id: u32, outcome: &str) -> Result<Value, AllocE
         .typed("over")
 }
 
-/// How many fields of a worksheet show an answer at the end of an evaluation, and how many don't.
-pub fn counted_value(alloc: Global, answered: u64, unanswered: u64) -> Result<Value, AllocError>
-    ensures { IfOk result (λ value. view value ≡ telling_data (reported.counted answered unanswered)) }
+/// What the fields of a worksheet show at the end of an evaluation.
+#[derive(Clone, Copy, Debug)]
+pub struct Counted {
+    /// How many show an answer.
+    pub answered: u64,
+    /// How many don't.
+    pub unanswered: u64,
+    /// How many show an answer that is an error.
+    pub errors: u64,
+}
+
+/// How many fields of a worksheet show an answer at the end of an evaluation, how many don't, and how many an error.
+pub fn counted_value(alloc: Global, counted: Counted) -> Result<Value, AllocError>
+    ensures { IfOk result (λ value. view value
+        ≡ telling_data (reported.counted counted.answered counted.unanswered counted.errors)) }
 {
     Members::new(alloc)
-        .count("answered", answered)?
-        .count("unanswered", unanswered)?
+        .count("answered", counted.answered)?
+        .count("errors", counted.errors)?
+        .count("unanswered", counted.unanswered)?
         .typed("counted")
 }
 
@@ -51,19 +64,19 @@ pub fn counted_value(alloc: Global, answered: u64, unanswered: u64) -> Result<Va
 /// passed over.
 pub fn counted_in_time_value(
     alloc: Global,
-    answered: u64,
-    unanswered: u64,
+    counted: Counted,
     over: u64,
     passed: u64,
 ) -> Result<Value, AllocError>
     ensures { IfOk result (λ value. view value
-        ≡ telling_data (reported.counted_in_time answered unanswered over passed)) }
+        ≡ telling_data (reported.counted_in_time counted.answered counted.unanswered counted.errors over passed)) }
 {
     Members::new(alloc)
-        .count("answered", answered)?
+        .count("answered", counted.answered)?
+        .count("errors", counted.errors)?
         .count("over", over)?
         .count("passed", passed)?
-        .count("unanswered", unanswered)?
+        .count("unanswered", counted.unanswered)?
         .typed("counted")
 }
 

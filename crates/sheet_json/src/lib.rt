@@ -19,8 +19,8 @@ pub use blocks::block_value;
 pub use bytes::bytes_value;
 pub use checks::{Took, differs_value, left_out_value, new_value, same_value, unanswered_value};
 pub use ends::{
-    counted_in_time_value, counted_value, end_value, fault_value, hello_value, no_field_value,
-    no_program_value, over_value,
+    Counted, counted_in_time_value, counted_value, end_value, fault_value, hello_value,
+    no_field_value, no_program_value, over_value,
 };
 pub use events::{
     answered_value, banner_value, completed_value, default_value, ended_value, partial_value,

@@ -2,6 +2,7 @@ pub mod Base64
 pub mod Pieces
 pub mod Still
 pub mod Adding
+pub mod Blanks
 pub mod Blocks
 pub mod Cells
 pub mod Parts

@@ -9,8 +9,9 @@ use Rattle.serde_json.specs.Written.{has_float, items_have_float}
 use Rattle.worksheet.specs.Contents.{Contents}
 use Rattle.worksheet.specs.declared.field.Answer.{Answer}
 use Rattle.worksheet.specs.declared.field.Field.{Field}
+use Rattle.sheet_notebook.specs.Empty.{shows_nothing}
 use Rattle.sheet_notebook.specs.Formulas.{formula_of}
-use Rattle.sheet_notebook.specs.Notebook.{cell_of, error_data, has_parts, media_of, media_output, notebook, outputs_in, outputs_of, piece_outputs, picture_output, plain_bundle, result_of, own_output, stream_data, whole_output}
+use Rattle.sheet_notebook.specs.Notebook.{answer_outputs, cell_of, error_data, has_parts, media_of, media_output, notebook, outputs_in, outputs_of, piece_outputs, picture_output, plain_bundle, result_of, own_output, stream_data, whole_output}
 use Rattle.sheet_notebook.specs.Pictures.{is_error_tag, is_output_tag, drawn_as, picture_of}
 use Rattle.sheet_notebook.specs.Strings.{block_string, items_string}
 use Rattle.sheet_notebook.specs.declared.pictures.PictureKind.{PictureKind}
@@ -83,13 +84,27 @@ answer_depth b = go (has_parts b)
     go true = omega (arith, parts_depth (is_output_tag b.channel b.name) b.items)
     go false = omega (arith, own_depth false b (result_of (plain_bundle b)) (omega arith))
 
+shown_float : (b : Tree) → has_float (answer_outputs b) ≡ false
+shown_float b = go (shows_nothing b)
+  where
+    go : (t : Bool) → has_float (cond t (array no_items) (outputs_in b)) ≡ false
+    go true = refl
+    go false = answer_float b
+
+shown_depth : (b : Tree) → depth (answer_outputs b) ≤ 3
+shown_depth b = go (shows_nothing b)
+  where
+    go : (t : Bool) → depth (cond t (array no_items) (outputs_in b)) ≤ 3
+    go true = omega arith
+    go false = answer_depth b
+
 outputs_float : (answer : Option Answer) → has_float (outputs_of answer) ≡ false
 outputs_float None = refl
-outputs_float (Some answer) = answer_float answer.output
+outputs_float (Some answer) = shown_float answer.output
 
 outputs_depth : (answer : Option Answer) → depth (outputs_of answer) ≤ 3
 outputs_depth None = omega arith
-outputs_depth (Some answer) = answer_depth answer.output
+outputs_depth (Some answer) = shown_depth answer.output
 
 cell_float : (field : Field) → has_float (cell_of field) ≡ false
 unfolding cell_of

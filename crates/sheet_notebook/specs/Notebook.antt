@@ -10,6 +10,7 @@ use Rattle.worksheet.specs.declared.field.Answer.{Answer}
 use Rattle.worksheet.specs.declared.field.Field.{Field}
 use Rattle.sheet_text.specs.InputLines.{unfolded}
 use Rattle.sheet_text.specs.Blocks.{is_bare}
+use Rattle.sheet_notebook.specs.Empty.{shows_nothing}
 use Rattle.sheet_notebook.specs.Formulas.{formula_of}
 use Rattle.sheet_notebook.specs.Pictures.{is_error_tag, is_output_tag, drawn_as, picture_of}
 use Rattle.sheet_notebook.specs.Strings.{block_string, items_string, string_of}
@@ -113,10 +114,14 @@ has_parts b = is_bare b.channel b.name && has_own_output (is_output_tag b.channe
 abbrev pub outputs_in : Tree → Data
 outputs_in b = cond (has_parts b) (array (items_of (piece_outputs (is_output_tag b.channel b.name) b.items))) (array (item (whole_output b) no_items))
 
+-- the outputs of an answer: none where it shows nothing
+abbrev pub answer_outputs : Tree → Data
+answer_outputs output = cond (shows_nothing output) (array no_items) (outputs_in output)
+
 -- the outputs of a cell: none of a field without an answer
 abbrev pub outputs_of : Option Answer → Data
 outputs_of None = array no_items
-outputs_of (Some answer) = outputs_in answer.output
+outputs_of (Some answer) = answer_outputs answer.output
 
 -- the session of a field, under the name of this program
 abbrev pub cell_metadata : Field → Data

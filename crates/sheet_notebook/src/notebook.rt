@@ -7,8 +7,10 @@ ghost use Rattle.sheet_notebook.specs.Notebook as notebook;
 ghost use Rattle.sheet_notebook.specs.Strings as shown;
 ghost use Rattle.sheet_text.specs.InputLines as lines;
 
+use crate::empty::shows_nothing;
 use crate::outputs::outputs_in;
 use crate::strings::string_of;
+use block_tree::Block;
 use serde_json::{Map, Value, json, put};
 use sheet_text::unfolded;
 use std::alloc::{AllocError, Global};
@@ -21,13 +23,23 @@ fn id_of(alloc: Global, number: u32) -> Result<String, AllocError>
     format!(in alloc; "field-{}", number)
 }
 
+/// The outputs of an answer: none where it shows nothing.
+fn answer_outputs(alloc: Global, output: &Block) -> Result<Value, AllocError>
+    ensures { IfOk result (λ value. view value ≡ notebook.answer_outputs output.now) }
+{
+    if shows_nothing(output) {
+        return json!(in alloc; []);
+    }
+    outputs_in(alloc, output.node())
+}
+
 /// The outputs of a cell: none of a field without an answer.
 fn outputs_of(alloc: Global, answer: &Option<Answer>) -> Result<Value, AllocError>
     ensures { IfOk result (λ value. view value ≡ notebook.outputs_of answer.now) }
 {
     match answer {
         None => json!(in alloc; []),
-        Some(answer) => outputs_in(alloc, answer.output.node()),
+        Some(answer) => answer_outputs(alloc, &answer.output),
     }
 }
 

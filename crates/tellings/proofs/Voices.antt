@@ -16,7 +16,8 @@ use Rattle.sheet_json.specs.Sheets.{telling_line}
 use Rattle.sheet_json.specs.Tellings.{EventReported, Telling}
 use Rattle.sheet_json.specs.Tellings as reported
 use Rattle.tellings.specs.Json.{event_line}
-use Rattle.tellings.specs.Voice.{Voice, numbered_text}
+use Rattle.tellings.specs.Voice.{Voice, WroteFront, numbered_text}
+use Rattle.tellings.proofs.Cut.{front_ahead}
 use Rattle.tellings.proofs.Rows.{Written, part_written}
 
 -- a value of a life, where there is one, is on its line
@@ -43,11 +44,22 @@ came_on f replies i r a b c h is before more =
 abbrev pub OutcomesWritten : Voice → Contents → ℕ → List Outcome → ℕ → Option (List ℕ) → Option (List ℕ) → Type 0
 OutcomesWritten V sheet first outcomes i a b = Written a b (numbered_text V (first + i) sheet (drop i outcomes)) (numbered_text V first sheet outcomes)
 
+-- what is to come begins with this one's
+outcome_ahead : (V : Voice) (sheet : Contents) (first : ℕ) (outcomes : List Outcome) (i : ℕ) (o : Outcome) → i < length outcomes → o ≡ get_or outcomes i o
+    → numbered_text V (first + i) sheet (drop i outcomes) ≡ V.reply (first + i) sheet o.reply ++ numbered_text V (first + (i + 1)) sheet (drop (i + 1) outcomes)
+outcome_ahead V sheet first outcomes i o h is =
+    let later : (first + i) + 1 ≡ first + (i + 1) = omega arith in
+    ap (numbered_text V (first + i) sheet) (drop_more outcomes i o h ∙ ap (λ x. x ∷ drop (i + 1) outcomes) (sym is))
+    ∙ ap (λ n. V.reply (first + i) sheet o.reply ++ numbered_text V n sheet (drop (i + 1) outcomes)) later
+
 pub one_outcome : (V : Voice) (sheet : Contents) (first : ℕ) (outcomes : List Outcome) (i : ℕ) (o : Outcome) (a b c : Option (List ℕ)) → i < length outcomes → o ≡ get_or outcomes i o
     → OutcomesWritten V sheet first outcomes i a b → Appends b c (V.reply (first + i) sheet o.reply) → OutcomesWritten V sheet first outcomes (i + 1) a c
 one_outcome V sheet first outcomes i o a b c h is before more =
-    let later : (first + i) + 1 ≡ first + (i + 1) = omega arith in
     part_written a b c (numbered_text V (first + i) sheet (drop i outcomes)) (V.reply (first + i) sheet o.reply) (numbered_text V (first + (i + 1)) sheet (drop (i + 1) outcomes)) (numbered_text V first sheet outcomes)
-    (ap (numbered_text V (first + i) sheet) (drop_more outcomes i o h ∙ ap (λ x. x ∷ drop (i + 1) outcomes) (sym is))
-    ∙ ap (λ n. V.reply (first + i) sheet o.reply ++ numbered_text V n sheet (drop (i + 1) outcomes)) later)
-    before more
+    (outcome_ahead V sheet first outcomes i o h is) before more
+
+pub cut_outcome : (V : Voice) (sheet : Contents) (first : ℕ) (outcomes : List Outcome) (i : ℕ) (o : Outcome) (a b c : Option (List ℕ)) → i < length outcomes → o ≡ get_or outcomes i o
+    → OutcomesWritten V sheet first outcomes i a b → WroteFront b c (V.reply (first + i) sheet o.reply) → WroteFront a c (numbered_text V first sheet outcomes)
+cut_outcome V sheet first outcomes i o a b c h is before more =
+    front_ahead a b c (numbered_text V (first + i) sheet (drop i outcomes)) (V.reply (first + i) sheet o.reply) (numbered_text V (first + (i + 1)) sheet (drop (i + 1) outcomes)) (numbered_text V first sheet outcomes)
+    (outcome_ahead V sheet first outcomes i o h is) before more

@@ -28,6 +28,7 @@ use Rattle.tellings.specs.Faults.{fault_name, fault_number, fault_offset}
 use Rattle.tellings.specs.declared.note.Frame.{Frame}
 use Rattle.tellings.specs.declared.note.Frame.TheVariants as frame
 use Rattle.tellings.specs.declared.note.Note.{Note}
+use Rattle.tellings.specs.declared.note.Counts.{Counts}
 use Rattle.tellings.specs.declared.note.Overs.{Overs}
 use Rattle.tellings.specs.declared.note.Note.TheVariants as note
 
@@ -56,9 +57,9 @@ abbrev pub warned_json : Seat → Interrupted → List ℕ
 warned_json seat reported_of = telling_line (reported.event seat.name seat.life (reported.warned (outcome_name reported_of)))
 
 -- what an evaluation came to, with what its limit of time came to where it had one
-abbrev pub counted_json : ℕ → ℕ → Option Overs → List ℕ
-counted_json answered unanswered None = telling_line (reported.counted answered unanswered)
-counted_json answered unanswered (Some overs) = telling_line (reported.counted_in_time answered unanswered overs.over overs.passed)
+abbrev pub counted_json : Counts → Option Overs → List ℕ
+counted_json counts None = telling_line (reported.counted counts.answered counts.unanswered counts.errors)
+counted_json counts (Some overs) = telling_line (reported.counted_in_time counts.answered counts.unanswered counts.errors overs.over overs.passed)
 
 abbrev pub note_json : Note → List ℕ
 note_json (note.Bad line) = telling_line (reported.reply line reported.bad)
@@ -67,7 +68,7 @@ note_json (note.Waited line timed) = telling_line (reported.reply line (reported
 note_json (note.Interrupted line name reported_of) = interrupt_json line reported_of
 note_json (note.Over id reported_of) = telling_line (reported.over id (outcome_name reported_of))
 note_json (note.Warned seat reported_of) = warned_json seat reported_of
-note_json (note.Counted counts) = counted_json counts.answered counts.unanswered counts.overs
+note_json (note.Counted counts) = counted_json counts counts.overs
 note_json (note.Undone first last) = telling_line (reported.reply last (reported.undone first))
 
 -- what is printed of a life, if anything

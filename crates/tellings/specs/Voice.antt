@@ -1,5 +1,6 @@
 -- A format of what is printed of a live worksheet: in words, or as JSON.
-use Rattle.std.specs.Prelude.{◌≡◌, ◌⊎◌, ℕ, ◌+◌, Bool, true, List, [], ◌∷◌, ◌++◌, codes}
+use Rattle.std.specs.Prelude.{◌≡◌, ◌⊎◌, ℕ, ◌+◌, Bool, true, List, [], ◌∷◌, ◌++◌, Option, codes}
+use Rattle.std.specs.Io.KnownBytes.{Appends}
 use Rattle.std.specs.List.{flat_map}
 use Rattle.worksheet.specs.Contents.{Contents}
 use Rattle.host_events.specs.declared.outcome.Outcome.{Outcome}
@@ -43,6 +44,17 @@ lives_text V w replies = flat_map (V.came w) replies
 abbrev pub numbered_text : Voice → ℕ → Contents → List Outcome → List ℕ
 numbered_text V line sheet [] = []
 numbered_text V line sheet (o ∷ outcomes) = V.reply line sheet o.reply ++ numbered_text V (line + 1) sheet outcomes
+
+-- A beginning of this text was written, and nothing else.
+pub record WroteFront (old new : Option (List ℕ)) (text : List ℕ) : Type 0 where
+  pub front : List ℕ
+  pub rest : List ℕ
+  pub split : front ++ rest ≡ text
+  pub wrote : Appends old new front
+
+-- what was written of a text for which there was no memory
+abbrev pub CutShort : Option (List ℕ) → Option (List ℕ) → List ℕ → RunFault → Type 0
+CutShort old new text why = why ≡ fault.OutOfMemory → WroteFront old new text
 
 -- Why something isn't printed: the writer failed, or there was no memory for it.
 abbrev pub IsWithheld : Voice → RunFault → Type 0

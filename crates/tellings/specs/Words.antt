@@ -1,6 +1,6 @@
 -- What is printed, in words. (docs/use/SCRIPT.md, "Live".)
 use Rattle.std.specs.Fmt.{decimal}
-use Rattle.std.specs.Prelude.{ℕ, false, List, [], ◌∷◌, ◌++◌, Option, Some, None, codes, cond}
+use Rattle.std.specs.Prelude.{◌==◌, ℕ, false, List, [], ◌∷◌, ◌++◌, Option, Some, None, codes, cond}
 use Rattle.worksheet.specs.Checks.{field_in}
 use Rattle.worksheet.specs.Contents.{Contents}
 use Rattle.worksheet.specs.declared.field.Field.{Field}
@@ -38,9 +38,13 @@ overs_text (Some overs) = codes "over " ++ decimal overs.over ++ codes " passed 
 abbrev pub answers_text : Counts → List ℕ
 answers_text counts = codes "answered " ++ decimal counts.answered ++ codes " unanswered " ++ decimal counts.unanswered ++ 10 ∷ []
 
--- what an evaluation came to: how many fields of the worksheet show an answer, and what its limit of time came to
+-- how many fields show an error, where one does
+abbrev pub errors_text : ℕ → List ℕ
+errors_text errors = cond (errors == 0) [] (codes "errors " ++ decimal errors ++ 10 ∷ [])
+
+-- what an evaluation came to: how many fields of the worksheet show an answer, how many an error, and what its limit of time came to
 abbrev pub evaluation_text : Counts → List ℕ
-evaluation_text counts = answers_text counts ++ overs_text counts.overs
+evaluation_text counts = answers_text counts ++ errors_text counts.errors ++ overs_text counts.overs
 
 -- the time of the field with this number is over
 abbrev pub over_line : ℕ → List ℕ

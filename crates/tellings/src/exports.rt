@@ -117,6 +117,7 @@ pub(crate) fn write_exported<W: Write>(
     ensures ok { OnOk result (Appends (W.contents writer.old) (W.contents writer.new)
         (exported_json line format sheet.now.contents)) }
     ensures err { IfErr result (IsWithheld in_json) }
+    ensures unwritten { IfErr result (λ why. why ≡ RunFault.OutOfMemory → writer.new ≡ writer.old) }
 {
     let name = format_name(format);
     match whole_text(alloc, format, sheet) {

@@ -1,11 +1,11 @@
 //! As lines of JSON.
-ghost use Rattle.std.specs.Prelude.{◌+◌, ◌<◌, ◌^◌, IfErr, OnOk, length};
+ghost use Rattle.std.specs.Prelude.{◌≡◌, ◌+◌, ◌<◌, ◌^◌, IfErr, OnOk, length};
 ghost use Rattle.std.specs.Option.{option_copied};
 ghost use Rattle.std.specs.Io.KnownBytes.{Appends};
 ghost use Rattle.tellings.specs.Json as texts;
 ghost use Rattle.session_engine.specs.World.{World};
 ghost use Rattle.session_engine.specs.Host.{IsHost};
-ghost use Rattle.tellings.specs.Voice.{IsWithheld, lives_text, numbered_text};
+ghost use Rattle.tellings.specs.Voice.{CutShort, IsWithheld, lives_text, numbered_text};
 ghost use Rattle.worksheet.specs.Contents.{Contents};
 
 use crate::exports::write_exported;
@@ -44,6 +44,7 @@ fn write_closed<W: Write>(
     ensures ok { OnOk result (Appends (W.contents writer.old) (W.contents writer.new)
         (texts.closed_json sheet.now.contents (option_copied next.entry) child.now)) }
     ensures err { IfErr result (IsWithheld texts.in_json) }
+    ensures unwritten { IfErr result (λ why. why ≡ RunFault.OutOfMemory → writer.new ≡ writer.old) }
 {
     match &child.closed {
         None => Ok(()),
@@ -67,6 +68,7 @@ fn write_default<W: Write>(
     ensures ok { OnOk result (Appends (W.contents writer.old) (W.contents writer.new)
         (texts.default_json child.now)) }
     ensures err { IfErr result (IsWithheld texts.in_json) }
+    ensures unwritten { IfErr result (λ why. why ≡ RunFault.OutOfMemory → writer.new ≡ writer.old) }
 {
     match &child.default_input {
         None => Ok(()),
@@ -86,6 +88,7 @@ fn write_ended<W: Write>(alloc: Global, child: &ChildReply, writer: &mut W) -> R
     ensures ok { OnOk result (Appends (W.contents writer.old) (W.contents writer.new)
         (texts.ended_json child.now)) }
     ensures err { IfErr result (IsWithheld texts.in_json) }
+    ensures unwritten { IfErr result (λ why. why ≡ RunFault.OutOfMemory → writer.new ≡ writer.old) }
 {
     match &child.ended {
         None => Ok(()),
@@ -108,6 +111,7 @@ fn write_child<W: Write>(
     ensures ok { OnOk result (Appends (W.contents writer.old) (W.contents writer.new)
         (texts.child_json sheet.now.contents (option_copied next.entry) child.now)) }
     ensures err { IfErr result (IsWithheld texts.in_json) }
+    ensures cut { IfErr result (CutShort (W.contents writer.old) (W.contents writer.new) (texts.child_json sheet.now.contents (option_copied next.entry) child.now)) }
 {
     write_closed(alloc, sheet, next, child, writer)?;
     write_default(alloc, child, writer)?;
@@ -125,6 +129,7 @@ fn write_came<D: Disk, W: Write>(
     ensures ok { (w : World) → IsHost host.now w → OnOk result (Appends (W.contents writer.old) (W.contents writer.new)
         (texts.came_json w reply.now)) }
     ensures err { IfErr result (IsWithheld texts.in_json) }
+    ensures cut { (w : World) → IsHost host.now w → IfErr result (CutShort (W.contents writer.old) (W.contents writer.new) (texts.came_json w reply.now)) }
 {
     match reply {
         Reply::Child(child) => {
@@ -146,6 +151,7 @@ fn write_lives<D: Disk, W: Write>(
     ensures ok { (w : World) → IsHost host.now w → OnOk result (Appends (W.contents writer.old) (W.contents writer.new)
         (lives_text texts.in_json w replies.now)) }
     ensures err { IfErr result (IsWithheld texts.in_json) }
+    ensures cut { (w : World) → IsHost host.now w → IfErr result (CutShort (W.contents writer.old) (W.contents writer.new) (lives_text texts.in_json w replies.now)) }
 {
     for reply in replies {
         write_came(alloc, host, reply, writer)?;
@@ -163,6 +169,7 @@ fn write_stopped<W: Write>(
     ensures ok { OnOk result (Appends (W.contents writer.old) (W.contents writer.new)
         (texts.stopped_json line child.now)) }
     ensures err { IfErr result (IsWithheld texts.in_json) }
+    ensures unwritten { IfErr result (λ why. why ≡ RunFault.OutOfMemory → writer.new ≡ writer.old) }
 {
     let name = child.name.as_slice();
     match &child.ended {
@@ -184,6 +191,7 @@ fn write_reply<W: Write>(
     ensures ok { OnOk result (Appends (W.contents writer.old) (W.contents writer.new)
         (texts.reply_json line reply.now)) }
     ensures err { IfErr result (IsWithheld texts.in_json) }
+    ensures unwritten { IfErr result (λ why. why ≡ RunFault.OutOfMemory → writer.new ≡ writer.old) }
 {
     match reply {
         Reply::Done => write_made(alloc, done_value(alloc, line), writer),
@@ -206,6 +214,7 @@ fn write_outcomes<W: Write>(
     ensures ok { (sheet : Contents) → OnOk result (Appends (W.contents writer.old) (W.contents writer.new)
         (numbered_text texts.in_json first sheet outcomes.now)) }
     ensures err { IfErr result (IsWithheld texts.in_json) }
+    ensures cut { (sheet : Contents) → IfErr result (CutShort (W.contents writer.old) (W.contents writer.new) (numbered_text texts.in_json first sheet outcomes.now)) }
 {
     let mut line = first;
     for outcome in outcomes {
@@ -219,6 +228,7 @@ fn write_outcomes<W: Write>(
 fn write_frame<W: Write>(alloc: Global, frame: Frame, writer: &mut W) -> Result<(), RunFault>
     ensures ok { OnOk result (Appends (W.contents writer.old) (W.contents writer.new) (texts.frame_json frame)) }
     ensures err { IfErr result (IsWithheld texts.in_json) }
+    ensures unwritten { IfErr result (λ why. why ≡ RunFault.OutOfMemory → writer.new ≡ writer.old) }
 {
     match frame {
         Frame::Hello => write_made(alloc, hello_value(alloc), writer),

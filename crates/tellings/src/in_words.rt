@@ -6,7 +6,7 @@ ghost use Rattle.worksheet.specs.Checks.{field_in};
 ghost use Rattle.offline_programs.specs.Memory.{replies_text};
 ghost use Rattle.sheet_text.specs.Texts as texts;
 ghost use Rattle.tellings.specs.Voice.{numbered_text};
-ghost use Rattle.tellings.specs.Words.{answers_text, evaluation_text, field_shown, in_words, interrupt_text, over_line, overs_text, undone_line};
+ghost use Rattle.tellings.specs.Words.{answers_text, errors_text, evaluation_text, field_shown, in_words, interrupt_text, over_line, overs_text, undone_line};
 ghost use Rattle.worksheet.specs.Contents.{Contents};
 
 use crate::exports::tell_words;
@@ -171,9 +171,23 @@ fn write_answers<W: Write>(counts: Counts, writer: &mut W) -> Result<(), RunFaul
     let Counts {
         answered,
         unanswered,
+        errors: _,
         overs: _,
     } = counts;
     writeln!(writer, "answered {answered} unanswered {unanswered}").map_err(|_| RunFault::Output)?;
+    Ok(())
+}
+
+/// Writes how many fields show an error, where one does.
+fn write_errors<W: Write>(errors: usize, writer: &mut W) -> Result<(), RunFault>
+    ensures ok { OnOk result (Appends (W.contents writer.old) (W.contents writer.new)
+        (errors_text errors)) }
+    ensures err { IfErr result (λ fault. fault ≡ RunFault.Output) }
+{
+    if errors == 0 {
+        return Ok(());
+    }
+    writeln!(writer, "errors {errors}").map_err(|_| RunFault::Output)?;
     Ok(())
 }
 
@@ -197,6 +211,7 @@ fn tell_counts<W: Write>(counts: Counts, writer: &mut W) -> Result<(), RunFault>
     ensures err { IfErr result (λ fault. fault ≡ RunFault.Output) }
 {
     write_answers(counts, writer)?;
+    write_errors(counts.errors, writer)?;
     write_overs(counts.overs, writer)?;
     writer.flush().map_err(|_| RunFault::Output)?;
     Ok(())

@@ -32,6 +32,8 @@ pub struct Counts {
     pub answered: usize,
     /// How many don't and aren't prose.
     pub unanswered: usize,
+    /// How many show an answer that is an error.
+    pub errors: usize,
     /// How many were over and passed over: with a limit of time, and where some were passed over.
     pub overs: Option<Overs>,
 }

@@ -10,8 +10,8 @@ use child_calls::Seat;
 use child_edge::Interrupted;
 use offline_programs::RunFault;
 use sheet_json::{
-    bad_value, counted_in_time_value, counted_value, interrupted_value, nothing_value, over_value,
-    refused_value, undone_value, waited_value, warned_value,
+    Counted, bad_value, counted_in_time_value, counted_value, interrupted_value, nothing_value,
+    over_value, refused_value, undone_value, waited_value, warned_value,
 };
 use std::alloc::Global;
 use std::io::Write;
@@ -38,6 +38,7 @@ fn write_warned<W: Write>(
     ensures ok { OnOk result (Appends (W.contents writer.old) (W.contents writer.new)
         (texts.warned_json seat reported)) }
     ensures err { IfErr result (IsWithheld texts.in_json) }
+    ensures unwritten { IfErr result (λ why. why ≡ RunFault.OutOfMemory → writer.new ≡ writer.old) }
 {
     let value = warned_value(alloc, seat.name.as_slice(), seat.life, outcome(reported));
     write_made(alloc, value, writer)
@@ -53,6 +54,7 @@ fn write_interrupt<W: Write>(
     ensures ok { OnOk result (Appends (W.contents writer.old) (W.contents writer.new)
         (texts.interrupt_json line reported)) }
     ensures err { IfErr result (IsWithheld texts.in_json) }
+    ensures unwritten { IfErr result (λ why. why ≡ RunFault.OutOfMemory → writer.new ≡ writer.old) }
 {
     match reported {
         Interrupted::NoSession => {
@@ -71,15 +73,20 @@ fn write_interrupt<W: Write>(
 /// Writes what an evaluation came to.
 fn write_counts<W: Write>(alloc: Global, counts: Counts, writer: &mut W) -> Result<(), RunFault>
     ensures ok { OnOk result (Appends (W.contents writer.old) (W.contents writer.new)
-        (texts.counted_json counts.answered counts.unanswered counts.overs)) }
+        (texts.counted_json counts counts.overs)) }
     ensures err { IfErr result (IsWithheld texts.in_json) }
+    ensures unwritten { IfErr result (λ why. why ≡ RunFault.OutOfMemory → writer.new ≡ writer.old) }
 {
-    let (answered, unanswered) = (counts.answered as u64, counts.unanswered as u64);
+    let counted = Counted {
+        answered: counts.answered as u64,
+        unanswered: counts.unanswered as u64,
+        errors: counts.errors as u64,
+    };
     match counts.overs {
-        None => write_made(alloc, counted_value(alloc, answered, unanswered), writer),
+        None => write_made(alloc, counted_value(alloc, counted), writer),
         Some(overs) => {
             let (over, passed) = (overs.over, overs.passed);
-            let value = counted_in_time_value(alloc, answered, unanswered, over, passed);
+            let value = counted_in_time_value(alloc, counted, over, passed);
             write_made(alloc, value, writer)
         }
     }
@@ -93,6 +100,7 @@ pub(crate) fn write_note<W: Write>(
 ) -> Result<(), RunFault>
     ensures ok { OnOk result (Appends (W.contents writer.old) (W.contents writer.new) (texts.note_json note)) }
     ensures err { IfErr result (IsWithheld texts.in_json) }
+    ensures unwritten { IfErr result (λ why. why ≡ RunFault.OutOfMemory → writer.new ≡ writer.old) }
 {
     match note {
         Note::Bad(line) => write_made(alloc, bad_value(alloc, line), writer),

@@ -10,14 +10,14 @@ use worksheet::Sheet;
 
 /// A format of what is printed. Each call but `lives` flushes what it writes.
 ///
-/// `Output` where the writer fails: a part may have gone out. `OutOfMemory` where a voice that takes memory
-/// has none for a line. Of what went out of such a text no clause says more.
+/// `Output` where the writer fails: a part may have gone out, and no clause says which. `OutOfMemory` where a voice that takes memory
+/// has none for a line: the lines before it went out, and nothing else.
 pub trait Tells {
     ghost use Rattle.std.specs.Prelude.{IfErr, OnOk, ◌≡◌, ◌+◌, ◌<◌, ◌^◌, false, length, true};
     ghost use Rattle.std.specs.Io.KnownBytes.{Appends};
     ghost use Rattle.session_engine.specs.World.{World};
     ghost use Rattle.session_engine.specs.Host.{IsHost};
-    ghost use Rattle.tellings.specs.Voice.{IsWithheld, Voice, lives_text, numbered_text};
+    ghost use Rattle.tellings.specs.Voice.{CutShort, IsWithheld, Voice, lives_text, numbered_text};
 
     /// The texts that it writes.
     ghost voice: { Voice };
@@ -26,12 +26,14 @@ pub trait Tells {
     fn frame<W: Write>(&self, frame: Frame, writer: &mut W) -> Result<(), RunFault>
         ensures ok { OnOk result (Appends (W.contents writer.old) (W.contents writer.new) (voice.frame frame)) }
         ensures still { voice.takes_memory ≡ false → writer.new ≡ writer.old }
-        ensures err { IfErr result (λ why. (voice.takes_memory ≡ true) × IsWithheld voice why) };
+        ensures err { IfErr result (λ why. (voice.takes_memory ≡ true) × IsWithheld voice why) }
+        ensures unwritten { IfErr result (λ why. why ≡ RunFault.OutOfMemory → writer.new ≡ writer.old) };
 
     /// Tells what comes of a line, or of a wait, apart from replies.
     fn note<W: Write>(&self, note: Note, writer: &mut W) -> Result<(), RunFault>
         ensures ok { OnOk result (Appends (W.contents writer.old) (W.contents writer.new) (voice.note note)) }
-        ensures err { IfErr result (IsWithheld voice) };
+        ensures err { IfErr result (IsWithheld voice) }
+        ensures unwritten { IfErr result (λ why. why ≡ RunFault.OutOfMemory → writer.new ≡ writer.old) };
 
     /// Tells what commands gave that were taken together, one on each line from this one on, where this is the
     /// worksheet after them.
@@ -45,7 +47,9 @@ pub trait Tells {
         requires { first + length outcomes.now < 2 ^ 64 }
         ensures ok { OnOk result (Appends (W.contents writer.old) (W.contents writer.new)
             (numbered_text voice first sheet.now.contents outcomes.now)) }
-        ensures err { IfErr result (IsWithheld voice) };
+        ensures err { IfErr result (IsWithheld voice) }
+        ensures cut { IfErr result (CutShort (W.contents writer.old) (W.contents writer.new)
+            (numbered_text voice first sheet.now.contents outcomes.now)) };
 
     /// Tells what came of lives, or of a script's lines that have no number, with what this host knows of each life, and
     /// flushes nothing: `events` of what followed is called after it.
@@ -57,7 +61,9 @@ pub trait Tells {
     ) -> Result<(), RunFault>
         ensures ok { (w : World) → IsHost host.now w
             → OnOk result (Appends (W.contents writer.old) (W.contents writer.new) (lives_text voice w replies.now)) }
-        ensures err { IfErr result (IsWithheld voice) };
+        ensures err { IfErr result (IsWithheld voice) }
+        ensures cut { (w : World) → IsHost host.now w
+            → IfErr result (CutShort (W.contents writer.old) (W.contents writer.new) (lives_text voice w replies.now)) };
 
     /// Tells what came of lives, with what this host knows of each.
     fn events<D: Disk, W: Write>(
@@ -68,7 +74,9 @@ pub trait Tells {
     ) -> Result<(), RunFault>
         ensures ok { (w : World) → IsHost host.now w
             → OnOk result (Appends (W.contents writer.old) (W.contents writer.new) (lives_text voice w replies.now)) }
-        ensures err { IfErr result (IsWithheld voice) };
+        ensures err { IfErr result (IsWithheld voice) }
+        ensures cut { (w : World) → IsHost host.now w
+            → IfErr result (CutShort (W.contents writer.old) (W.contents writer.new) (lives_text voice w replies.now)) };
 
     /// Tells the worksheet, for which this line asks.
     fn sheet<D: Disk, W: Write>(
@@ -79,7 +87,9 @@ pub trait Tells {
     ) -> Result<(), RunFault>
         ensures ok { (w : World) → IsHost host.now w
             → OnOk result (Appends (W.contents writer.old) (W.contents writer.new) (voice.sheet line w)) }
-        ensures err { IfErr result (IsWithheld voice) };
+        ensures err { IfErr result (IsWithheld voice) }
+        ensures cut { (w : World) → IsHost host.now w
+            → IfErr result (CutShort (W.contents writer.old) (W.contents writer.new) (voice.sheet line w)) };
 
     /// Tells the field with this number, for which this line asks, or that there is none.
     fn field<D: Disk, W: Write>(
@@ -91,7 +101,8 @@ pub trait Tells {
     ) -> Result<(), RunFault>
         ensures ok { (w : World) → IsHost host.now w
             → OnOk result (Appends (W.contents writer.old) (W.contents writer.new) (voice.field line id w)) }
-        ensures err { IfErr result (IsWithheld voice) };
+        ensures err { IfErr result (IsWithheld voice) }
+        ensures unwritten { IfErr result (λ why. why ≡ RunFault.OutOfMemory → writer.new ≡ writer.old) };
 
     /// Tells this worksheet in a format, for which this line asks, or that it isn't written in it.
     fn export<W: Write>(
@@ -103,7 +114,8 @@ pub trait Tells {
     ) -> Result<(), RunFault>
         ensures ok { OnOk result (Appends (W.contents writer.old) (W.contents writer.new)
             (voice.exported line format sheet.now.contents)) }
-        ensures err { IfErr result (IsWithheld voice) };
+        ensures err { IfErr result (IsWithheld voice) }
+        ensures unwritten { IfErr result (λ why. why ≡ RunFault.OutOfMemory → writer.new ≡ writer.old) };
 
     /// Tells a fault, last of all, and whether that went out.
     fn fault<W: Write>(&self, why: RunFault, writer: &mut W) -> bool

@@ -19,6 +19,7 @@ fn write_line<W: Write>(alloc: Global, value: &Value, writer: &mut W) -> Result<
     ensures ok { (t : Telling) → view value.now ≡ telling_data t
         → OnOk result (Appends (W.contents writer.old) (W.contents writer.new) (telling_line t)) }
     ensures err { IfErr result (IsWithheld in_json) }
+    ensures unwritten { IfErr result (λ why. why ≡ RunFault.OutOfMemory → writer.new ≡ writer.old) }
 {
     match reported_bytes(alloc, value) {
         Ok(bytes) => writer
@@ -37,6 +38,7 @@ pub(crate) fn write_made<W: Write>(
     ensures ok { (t : Telling) → IfOk made (λ value. view value ≡ telling_data t)
         → OnOk result (Appends (W.contents writer.old) (W.contents writer.new) (telling_line t)) }
     ensures err { IfErr result (IsWithheld in_json) }
+    ensures unwritten { IfErr result (λ why. why ≡ RunFault.OutOfMemory → writer.new ≡ writer.old) }
 {
     match made {
         Ok(value) => write_line(alloc, &value, writer),
@@ -54,6 +56,7 @@ pub(crate) fn write_if<W: Write>(
         → IfOk made (λ value. option_map view value ≡ option_map (event_data session life) e)
         → OnOk result (Appends (W.contents writer.old) (W.contents writer.new) (event_line session life e)) }
     ensures err { IfErr result (IsWithheld in_json) }
+    ensures unwritten { IfErr result (λ why. why ≡ RunFault.OutOfMemory → writer.new ≡ writer.old) }
 {
     match made {
         Ok(Some(value)) => write_line(alloc, &value, writer),

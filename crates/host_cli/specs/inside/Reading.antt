@@ -10,4 +10,5 @@ IsWhy asked plans.Id = asked ≡ Err plans.Id
 IsWhy asked plans.Both = asked ≡ Err plans.Both
 IsWhy asked plans.Jobs = asked ≡ Err plans.Jobs
 IsWhy asked plans.Strict = asked ≡ Err plans.Strict
+IsWhy asked plans.Changed = asked ≡ Err plans.Changed
 IsWhy asked plans.OutOfMemory = Unit {0}

@@ -1,6 +1,8 @@
 use Rattle.std.proofs.Common.{◌≡◌, ◌+◌, subst, arith}
+use Rattle.std.proofs.lemmas.Result.{err_from_is_err_and}
 use Rattle.std.specs.Io.KnownBytes.{Appends}
-use Rattle.tellings.proofs.Voices.{one_outcome}
+use Rattle.tellings.specs.Voice.{WroteFront}
+use Rattle.tellings.proofs.Voices.{cut_outcome, one_outcome}
 use Rattle.field_agenda.specs.FieldLines.{by_field_lines, line_of_field}
 use Rattle.field_agenda.proofs.field_lines.tell_each.Goals as goal
 
@@ -17,3 +19,12 @@ loop-outcome-preserved g c =
           c.loop-outcome-test.true c.outcome-item.is c.loop-outcome.invariant.1
           (subst (λ n. Appends b e (g.T.Tells.voice.reply (line_of_field n) sheet c.outcome-item.result.reply)) on c.in_ok-tell_one.ensures.ok),
     )
+
+pub returns-in_err-tell_one-clause-cut : goal.returns-in_err-tell_one-clause-cut
+returns-in_err-tell_one-clause-cut g c = let p = err_from_is_err_and c.from_residual.result c.from_residual.ensures.1 in rw (p.1, p.2) (λ lacks.
+    let a = g.W.Write.contents c.args.writer.now in
+    let b = g.W.Write.contents c.loop-outcome.writer in
+    let e = g.W.Write.contents c.tell_one.new.writer in
+    let sheet = c.args.sheet.now.contents in
+    cut_outcome (by_field_lines g.T.Tells.voice) sheet c.args.first c.args.outcomes.now c.loop-outcome.outcome-index c.outcome-item.result a b e c.loop-outcome-test.true c.outcome-item.is c.loop-outcome.invariant.1
+    (subst (λ n. WroteFront b e (g.T.Tells.voice.reply (line_of_field n) sheet c.outcome-item.result.reply)) c.loop-outcome.invariant.0 (c.in_err-tell_one.ensures.cut lacks)))

@@ -6,4 +6,4 @@ pub returns-in-Ok : goal.returns-in-Ok
 returns-in-Ok g c = greeted c.frame.new.writer (c.in-Ok.ensures.ok, c.in-Ok.ensures.still) c.end_on.ensures
 
 pub returns-in-Err : goal.returns-in-Err
-returns-in-Err g c = ungreeted c.in-Err.why c.frame.new.writer c.in-Err.ensures.err.0 c.in-Err.ensures.err.1 c.end_reported.ensures.last c.end_reported.ensures.status c.end_reported.ensures.reported refl c.close.ensures
+returns-in-Err g c = ungreeted c.in-Err.why c.frame.new.writer (c.in-Err.ensures.err.0, c.in-Err.ensures.err.1, c.in-Err.ensures.unwritten) c.end_reported.ensures.last c.end_reported.ensures.status c.end_reported.ensures.reported refl c.close.ensures

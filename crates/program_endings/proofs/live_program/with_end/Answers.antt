@@ -5,4 +5,4 @@ pub returns-in-Ok-clause-ended : goal.returns-in-Ok-clause-ended
 returns-in-Ok-clause-ended g c = inl ((c.in-Ok.ensures.ok, c.in-Ok.ensures.still), refl)
 
 pub returns-in-Err-clause-ended : goal.returns-in-Err-clause-ended
-returns-in-Err-clause-ended g c = inr (c.in-Err.why, c.frame.new.writer, c.with_fault.ensures.answer, c.in-Err.ensures.err.0, c.in-Err.ensures.err.1, c.with_fault.ensures.last)
+returns-in-Err-clause-ended g c = inr (c.in-Err.why, c.frame.new.writer, c.with_fault.ensures.answer, (c.in-Err.ensures.err.0, c.in-Err.ensures.err.1, c.in-Err.ensures.unwritten), c.with_fault.ensures.last)

@@ -1,7 +1,9 @@
 use Rattle.std.proofs.Common.{◌≡◌, ◌+◌, subst, arith}
+use Rattle.std.proofs.lemmas.Result.{err_from_is_err_and}
 use Rattle.std.specs.Io.KnownBytes.{Appends}
 use Rattle.tellings.specs.Json.{in_json, reply_json}
-use Rattle.tellings.proofs.Voices.{one_outcome}
+use Rattle.tellings.proofs.Cut.{none_written}
+use Rattle.tellings.proofs.Voices.{cut_outcome, one_outcome}
 use Rattle.tellings.proofs.in_json.write_outcomes.Goals as goal
 
 pub loop-outcome-preserved : goal.loop-outcome-preserved
@@ -17,3 +19,11 @@ loop-outcome-preserved g c =
           c.loop-outcome-test.true c.outcome-item.is (c.loop-outcome.invariant.1 sheet)
           (subst (λ n. Appends b e (reply_json n c.outcome-item.result.reply)) on c.in_ok-write_reply.ensures.ok),
     )
+
+pub returns-in_err-write_reply-clause-cut : goal.returns-in_err-write_reply-clause-cut
+returns-in_err-write_reply-clause-cut g c = λ sheet. let p = err_from_is_err_and c.from_residual.result c.from_residual.ensures.1 in rw (p.1, p.2) (λ lacks.
+    let a = g.W.Write.contents c.args.writer.now in
+    let b = g.W.Write.contents c.loop-outcome.writer in
+    let e = g.W.Write.contents c.write_reply.new.writer in
+    cut_outcome in_json sheet c.args.first c.args.outcomes.now c.loop-outcome.outcome-index c.outcome-item.result a b e c.loop-outcome-test.true c.outcome-item.is (c.loop-outcome.invariant.1 sheet)
+    (none_written g.W.Write.contents c.loop-outcome.writer c.write_reply.new.writer _ (c.in_err-write_reply.ensures.unwritten lacks)))

@@ -1,4 +1,4 @@
-use Rattle.std.proofs.Common.{inl, inr, Err, ◌∷◌, arith, length, subst, sym}
+use Rattle.std.proofs.Common.{inl, inr, Err, ◌∷◌, ◌++◌, arith, length, subst, sym}
 use Rattle.offline_programs.specs.declared.fault.RunFault.{RunFault}
 use Rattle.session_engine.specs.declared.whole.Whole.{Whole}
 use Rattle.driver.specs.Place.{agenda_rules, rules, source_rules}
@@ -23,5 +23,5 @@ returns-in-Ok-clause-few g c = few_at_most most_together (length c.args.edits) c
 
 pub returns-in-Err-clause-did : goal.returns-in-Err-clause-did
 returns-in-Err-clause-did g c = λ n rest w h.
-    subst (λ (why : RunFault). DidSteps (rules (agenda_rules g.A.Agenda.rules g.A.Joins.joins) (source_rules g.S.Children.after g.S.Sources.wakes g.S.Sources.clock) g.K.Sink.rules) (seen n w (parts c.args.self.now.host c.args.self.now.sources c.args.self.now.sink c.args.self.now.agenda)) (take_whole c.args.first c.args.edits ∷ rest) (left_by_answer (λ (x : Whole). printing_whole c.args.first x rest)) (Err why) (n, parts c.serve_whole.new.host c.args.self.now.sources c.args.self.now.sink c.args.self.now.agenda)) (sym c.whole_fault.ensures)
+    subst (λ (why : RunFault). DidSteps (rules (agenda_rules g.A.Agenda.rules g.A.Joins.joins) (source_rules g.S.Children.after g.S.Sources.wakes g.S.Sources.clock) g.K.Sink.rules) (seen n w (parts c.args.self.now.host c.args.self.now.sources c.args.self.now.sink c.args.self.now.agenda)) (take_whole c.args.first c.args.edits ∷ rest) (left_by_answer (λ (x : Whole). printing_whole c.args.first x ++ rest)) (Err why) (n, parts c.serve_whole.new.host c.args.self.now.sources c.args.self.now.sink c.args.self.now.agenda)) (sym c.whole_fault.ensures)
     (failed_whole (rules (agenda_rules g.A.Agenda.rules g.A.Joins.joins) (source_rules g.S.Children.after g.S.Sources.wakes g.S.Sources.clock) g.K.Sink.rules) n rest w c.args.self.now.host h c.args.first c.args.edits c.args.self.now.sources c.args.self.now.sink c.args.self.now.agenda _ c.serve_whole.new.host c.in-Err.fault (c.in-Err.ensures.err w h))

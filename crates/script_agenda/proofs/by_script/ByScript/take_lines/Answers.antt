@@ -3,14 +3,15 @@ use Rattle.host_events.specs.declared.event.Event.{Event}
 use Rattle.script_agenda.specs.Gathering.{Gathers}
 use Rattle.script_agenda.specs.Says.{SaysOfLines, skips}
 use Rattle.script_agenda.specs.ScriptAt.{script_stand}
-use Rattle.script_agenda.proofs.Gatherings.{none_given}
+use Rattle.script_agenda.proofs.Gatherings.{none_given, none_more}
 use Rattle.script_agenda.proofs.by_script.ByScript.take_lines.Goals as goal
 
 pub returns-then-self-before : goal.returns-then-self-before
 returns-then-self-before c = λ going.
     let none = c.is_empty.ensures.0 c.if-not-is_empty.false in
     skips c.gather-edits.new.lines c.gather-edits.new.number going
-    (subst (λ (es : List Event). Gathers c.args.self.now.strict c.args.self.now.lines c.gather-edits.new.lines es) none c.gather-edits.ensures.gathers) c.gather-edits.ensures.count refl refl
+    (subst (λ (es : List Event). Gathers c.args.self.now.strict c.args.self.now.lines c.gather-edits.new.lines es) none c.gather-edits.ensures.gathers)
+    (omega (arith, c.if-self-before.true, c.gather-edits.ensures.count, none_more c.args.self.now.strict c.args.self.now.lines c.gather-edits.new.lines c.gather-edits.result c.gather-edits.ensures.gathers)) c.gather-edits.ensures.count refl refl
 
 pub returns : goal.returns
 returns c = λ going.
