@@ -5,6 +5,7 @@ ends, at the end of its input, and where nobody reads its output any more.
 """
 import contextlib
 import ctypes
+import io
 import os
 import re
 import select
@@ -216,6 +217,19 @@ class Preview:
         write(text[-LONGEST_PREVIEW:])
 
 
+class Reasons(io.TextIOWrapper):
+    """Standard error of an adapter, on which it says why it ends. A host drops that, so it is shown as what comes before an answer, too."""
+
+    def write(self, text: str) -> int:
+        with contextlib.suppress(OSError):
+            write(re.sub(rb"[\x02\x05\x1b]", b"?", text.encode("utf-8", "backslashreplace")))
+        return super().write(text)
+
+
+if PREVIEWS and sys.stderr:
+    sys.stderr = Reasons(sys.stderr.buffer, errors="backslashreplace", line_buffering=True)
+
+
 class Said:
     """What an interpreter says until a mark comes: the first LONGEST bytes, and the last ones, which may be a part of the mark."""
 
@@ -345,5 +359,7 @@ def run(program: Callable[[], None]) -> None:
     """Runs an adapter to its end. One whose interpreter isn't there, or whose reader has gone, says so."""
     try:
         program()
-    except (BrokenPipeError, FileNotFoundError) as error:
+    except BrokenPipeError as error:
         sys.exit(str(error))
+    except FileNotFoundError as error:
+        sys.exit(f"there is no program {error.filename} on PATH" if error.filename else str(error))

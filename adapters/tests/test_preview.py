@@ -4,7 +4,7 @@ import subprocess
 import sys
 import time
 import unittest
-from typing import Iterator, List, Optional
+from typing import Iterator, List, Optional, Tuple
 from unittest import mock
 
 import blocks
@@ -44,6 +44,31 @@ def block(descriptor: int) -> bytes:
             depth -= 1
             if not depth:
                 return reported
+
+
+class AtItsEnd(unittest.TestCase):
+    """Why an adapter ends stands on standard error, which hosts drop, and where that is wanted beside its blocks."""
+
+    def said(self, name: str, *words: str, **more: str) -> Tuple[bytes, bytes]:
+        """What an adapter writes that gets no line: its output and its errors."""
+        room = {name: value for name, value in os.environ.items() if name != "TMHOST_PARTIAL"}
+        command = [sys.executable, os.path.join(os.path.dirname(PYTHON), name), *words]
+        done = subprocess.run(command, stdin=subprocess.DEVNULL, capture_output=True, env={**room, **more})
+        self.assertNotIn(b"Traceback", done.stderr)
+        return done.stdout, done.stderr
+
+    def test_words_that_are_refused(self) -> None:
+        for name in ("gp", "python"):
+            output, errors = self.said(name, "--no-such-\x02word")
+            self.assertTrue(errors.endswith(b"unrecognized arguments: --no-such-\x02word\n"), errors)
+            self.assertEqual(output, b"")
+            self.assertEqual(self.said(name, "--no-such-\x02word", TMHOST_PARTIAL="1"), (errors.replace(b"\x02", b"?"), errors))
+
+    def test_an_interpreter_that_is_not_here(self) -> None:
+        for name, words, program in (("gp", (), b"gp"), ("prompted.py", ("octave",), b"octave-cli")):
+            why = b"there is no program " + program + b" on PATH\n"
+            self.assertEqual(self.said(name, *words, PATH="/nowhere"), (b"", why))
+            self.assertEqual(self.said(name, *words, PATH="/nowhere", TMHOST_PARTIAL="1"), (why, why))
 
 
 class Previews(unittest.TestCase):

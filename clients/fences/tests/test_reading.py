@@ -1,11 +1,30 @@
 """What stands at a fence, what its fields are, and what front matter says."""
+import os
+import shutil
+import subprocess
+import tempfile
 import unittest
 from typing import List, Tuple
 
+from tmhost_fences.blocks import blocks_of
 from tmhost_fences.fields import LINE_END, groups, language_in
 from tmhost_fences.front import front_of, matter_end
-from tmhost_fences.info import info_of, is_evaluated
+from tmhost_fences.info import info_of, is_evaluated, is_hidden, is_without_text
 from tmhost_fences.troubles import Trouble
+
+
+# Code of R, each with its fields.
+R_CODE: List[Tuple[str, List[str]]] = [
+    ("y <- 1:3 |>\nrev()\ny", ["y <- 1:3 |>|rev()", "y"]), ("w +\n1\n2", ["w +|1", "2"]), ("x %in%\ny\nx %% 2\nz", ["x %in%|y", "x %% 2", "z"]), ("x <-\n1 ->\ny\n~\nz", ["x <-|1 ->|y", "~|z"]),
+    ("x &&\ny ||\n! z ==\n1", ["x &&|y |||! z ==|1"]), ("w + # (\n\n# a remark\n1\n2", ["w + # (||# a remark|1", "2"]), ("f <- function(n)\n{\nn + 1\n}\nf(1)", ["f <- function(n)|{|n + 1|}", "f(1)"]),
+    ("f <- function(a,\nb = c(1, 2))\n{\na\n}\nf", ["f <- function(a,|b = c(1, 2))|{|a|}", "f"]), ("g <- \\(x)\nx + 1\ng(2)", ["g <- \\(x)|x + 1", "g(2)"]),
+    ("if (f(x) > 1)\n{\ny\n} else\n{\nz\n}\nx", ["if (f(x) > 1)|{|y|} else|{|z|}", "x"]), ("for (i in 1:3)\nwhile (x)\n{\ny\n}\nrepeat\n{\nbreak\n}", ["for (i in 1:3)|while (x)|{|y|}", "repeat|{|break|}"]),
+    ("x <- 1\n{\n2\n}\nf(x)\n{\n3\n}", ["x <- 1", "{|2|}", "f(x)", "{|3|}"]), ("x\nend <- 1\ndone = 2\nelsewhere", ["x", "end <- 1", "done = 2", "elsewhere"]),
+    ("s <- 'a +'\nt <- \"b {\n+\n\"\nu <- `b-`\n`if`(x)\ny", ["s <- 'a +'", 't <- "b {|+|"', "u <- `b-`", "`if`(x)", "y"]), ("x # +\ny # it's {\nz", ["x # +", "y # it's {", "z"]),
+    ('r"(\\)"\nR"-[]"(]-"\nx', ['r"(\\)"', 'R"-[]"(]-"', "x"]), ("", []),
+]
+# It says which of its files R takes for whole code.
+WHOLE_FOR_R = "for (name in commandArgs(TRUE)) cat(tryCatch({parse(name); 'whole'}, error = conditionMessage), '\\n')"
 
 
 class Infos(unittest.TestCase):
@@ -27,6 +46,19 @@ class Infos(unittest.TestCase):
         ]
         for text, code, wanted in asked:
             self.assertEqual(is_evaluated(info_of(text).options, code), wanted, (text, code))
+
+    def test_what_is_to_be_seen(self) -> None:
+        """Options of knitr and Quarto that are obeyed, and the others, which are ignored. Other words with values are none of them."""
+        asked: List[Tuple[str, List[str], bool, bool, List[str]]] = [
+            ("{r}", [], False, False, []), ("{r, include=FALSE}", [], True, False, []), ("{r, include=TRUE, echo=T}", [], False, False, []), ("{r}", ["#| include: false"], True, False, []),
+            ("{r}", ["#| output: false", "#| label: a"], True, False, []), ("{r, results='hide'}", [], False, True, []), ('{r results = "hide"}', [], False, True, []), ("{r, results=FALSE}", [], False, True, []),
+            ("{r, results='asis'}", [], False, False, ["results"]), ("{r, results='markup', label=b}", [], False, False, []), ("{r, include=FALSE}", ["#| include: true"], False, False, []),
+            ("{r, echo=FALSE, fig.width=4}", ["#| fig-cap: a"], False, False, ["echo", "fig.width", "fig-cap"]), ("{r, eval=c(1, 3)}", [], False, False, ["eval"]), ("{r, include=x}", [], False, False, ["include"]),
+            ("py title=x {whole}", [], False, False, []), ("py", ["#| echo: false", "x", "#| cache: true"], False, False, ["echo"]),
+        ]
+        for text, code, hidden, textless, others in asked:
+            block = blocks_of([f"~~~ {text}", *code, "~~~"])[0]
+            self.assertEqual((is_hidden(block.options), is_without_text(block.options), block.ignored), (hidden, textless, others), (text, code))
 
 
 class Fields(unittest.TestCase):
@@ -52,6 +84,27 @@ class Fields(unittest.TestCase):
         ):
             self.assertEqual(self.inputs(code, "tmhost-lua"), wanted, code)
         self.assertEqual(self.inputs("x\nuntil true; do\n  y\ndone", "tmhost-sh"), ["x", "until true; do|  y|done"])
+
+        self.assertEqual(self.inputs("x = [[a]]\ny", "tmhost-lua"), ["x = [[a]]", "y"])
+
+    def test_expressions_of_r(self) -> None:
+        """An operator at the end of a line holds the next one, and so does what wants a body."""
+        for code, wanted in R_CODE:
+            self.assertEqual(self.inputs(code, "tmhost-R"), wanted, code)
+        self.assertEqual(self.inputs("x +\ny", "adapters/prompted.py R"), ["x +|y"])
+        self.assertEqual(self.inputs("x +\n", "tmhost-R"), ["x +"])
+        self.assertEqual(self.inputs("w +\n1", "tmhost-gp"), ["w +", "1"])
+
+    @unittest.skipUnless(shutil.which("R"), "there is no R")
+    def test_r_takes_each_of_these_for_whole(self) -> None:
+        fields = [group.input.replace(LINE_END, "\n") for code, _ in R_CODE for group in groups(code.split("\n"), "R")]
+        with tempfile.TemporaryDirectory() as folder:
+            names = [os.path.join(folder, str(at)) for at in range(len(fields))]
+            for name, field in zip(names, fields):
+                with open(name, "w", encoding="utf-8") as file:
+                    file.write(field + "\n")
+            done = subprocess.run(["R", "--no-echo", "--no-save", "-e", WHOLE_FOR_R, "--args", *names], stdout=subprocess.PIPE, check=True)
+        self.assertEqual(done.stdout.decode().split(), ["whole"] * len(fields))
 
     def test_statements_of_sql(self) -> None:
         """One goes on to its semicolon, but not beyond a command of the shell. Where there is none a line is one."""

@@ -1,9 +1,9 @@
 """The fenced blocks of a CommonMark text, also those in block quotes and in items of lists, as markdown-it finds them."""
 import dataclasses
 import re
-from typing import Any, List, Sequence, Tuple
+from typing import Any, Dict, List, Sequence, Tuple
 
-from .info import Info, info_of, is_evaluated
+from .info import Info, ignored, info_of, is_evaluated, options_in
 from .troubles import needed
 
 LINE = re.compile(r"[^\r\n]*(?:\r\n|\r|\n)|[^\r\n]+\Z")
@@ -36,6 +36,16 @@ class Block:
     @property
     def is_evaluated(self) -> bool:
         return is_evaluated(self.info.options, self.content)
+
+    @property
+    def options(self) -> Dict[str, str]:
+        """Those at the fence, and those in remarks in front of its code, which come before the others."""
+        return {**self.info.options, **options_in(self.content)}
+
+    @property
+    def ignored(self) -> List[str]:
+        """The options of knitr and Quarto that are. What else has a value at a fence that is no chunk is something else."""
+        return ignored(self.options if self.info.is_chunk else options_in(self.content))
 
 
 def tokens_of(lines: Sequence[str]) -> List[Any]:

@@ -5,6 +5,8 @@ import os
 import re
 from typing import Dict, Iterator, List, Optional, Sequence, Tuple
 
+from . import r
+
 LINE_END = "\u2028"  # stands in an input for the end of a line, since an input has none
 LONGEST_INPUT = 4095  # bytes
 CONTROL = re.compile(r"[\x00-\x08\x0a-\x1f]")
@@ -12,7 +14,10 @@ SURROGATE = re.compile(r"[\ud800-\udfff]")
 # Words of several languages that close what an earlier line began, or begin a further branch of it.
 CLOSING = "elif|else|elseif|except|finally|end|endif|endfor|endwhile|endfunction|endswitch|end_try_catch|end_unwind_protect|do|done|then|fi|esac|od"
 GOES_ON = re.compile(rf"[ \t)\]}}]|(?:{CLOSING})\b")
-GOES_ON_IN = {"lua": re.compile(rf"{GOES_ON.pattern}|until\b")}  # elsewhere, as in a shell, it begins a loop
+GOES_ON_IN = {
+    "lua": re.compile(rf"{GOES_ON.pattern}|until\b"),  # elsewhere, as in a shell, it begins a loop
+    "R": re.compile(r"[ \t)\]}]|else\b"),  # the others are names
+}
 DECORATOR = re.compile(r"@\w")
 # What has no brackets that count: texts, and remarks.
 TEXT = re.compile(r"""\"(?:\\.|[^\"\\])*\"|'[^']*'|(?:\A|(?<=\s))#\s.*""")
@@ -25,8 +30,13 @@ TEXTS = {
     "python": re.compile(
         r'"""(?:\\.|[^\\])*?(?:"""|\Z)|\'\'\'(?:\\.|[^\\])*?(?:\'\'\'|\Z)|"(?:\\.|[^"\\\n])*"|\'(?:\\.|[^\'\\\n])*\'|#[^\n]*', re.DOTALL
     ),
+    # A text of R in brackets of its own, as r"(a)", and a name in backquotes are texts too.
+    "R": re.compile(
+        r"""(?<![\w.])[rR](["'])(-*)(?:\(.*?\)|\[.*?\]|\{.*?\})\2\1|"(?:\\.|[^"\\])*(?:"|\Z)|'(?:\\.|[^'\\])*(?:'|\Z)|`(?:\\.|[^`\\\n])*`|#[^\n]*""", re.DOTALL
+    ),
     "sqlite3": re.compile(r"""--[^\n]*|/\*.*?(?:\*/|\Z)|'[^']*(?:'|\Z)|"[^"]*(?:"|\Z)""", re.DOTALL),
 }
+REMARKS = ("#", "--", "/*", "//", "%", "\\\\")  # how they begin
 HOLDS = re.compile(r"[\\=]\s*\Z")  # at the end of a line
 
 
@@ -59,14 +69,15 @@ def language_in(words: Sequence[str]) -> str:
     return next((name for name in names if name in TEXTS), "")
 
 
+def left_of(found: "re.Match[str]") -> str:
+    """What stands in place of a text or a remark: of one of several lines brackets, which hold these together."""
+    line_ends = found[0].count("\n")
+    return "(" + "\n" * line_ends + ")" if line_ends else "" if found[0].startswith(REMARKS) else '""'
+
+
 def without_texts(lines: List[str], language: str) -> List[str]:
-    """The lines without texts and remarks. Of one of several lines there are brackets, which hold these together."""
-
-    def left(found: "re.Match[str]") -> str:
-        line_ends = found[0].count("\n")
-        return "(" + "\n" * line_ends + ")" if line_ends else '""' if found[0][0] in "\"'" else ""
-
-    return TEXTS[language].sub(left, "\n".join(lines)).split("\n")
+    """The lines without texts and remarks."""
+    return TEXTS[language].sub(left_of, "\n".join(lines)).split("\n")
 
 
 def opened(line: str) -> int:
@@ -100,19 +111,22 @@ def statements(lines: List[str], language: str) -> Dict[int, int]:
     return found
 
 
+def continued(lines: List[str], language: str) -> Dict[int, int]:
+    """The line in which a line goes on by what stands at its end, by that one: of R as R reads it, else the next one after a backslash or an equals
+    sign."""
+    return r.continued(lines) if language == "R" else {at: at + 1 for at, line in enumerate(lines) if HOLDS.search(line)}
+
+
 def holds(lines: List[str], language: str, most: int) -> Iterator[int]:
     """Of each line the last one that it holds: that which closes its brackets or ends its statement, where these are at most so many characters;
-    the next one after a backslash or an equals sign at its end; else itself."""
+    that in which it goes on by its end; else itself."""
     ends = list(itertools.accumulate((1 + len(line) for line in lines), initial=0))
     bare = without_texts(lines, language) if language in TEXTS else lines
     closed = closings(bare if language in TEXTS else [TEXT.sub("", line) for line in lines])
-    ended = statements(bare, language)
-    for at, line in enumerate(bare):
+    ended, following = statements(bare, language), continued(bare, language)
+    for at in range(len(lines)):
         last = max(closed.get(at, at), ended.get(at, at))
-        if last > at and ends[last + 1] - ends[at] <= most:
-            yield last
-        else:
-            yield at + 1 if HOLDS.search(line) else at
+        yield last if last > at and ends[last + 1] - ends[at] <= most else following.get(at, at)
 
 
 def groups(lines: List[str], language: str, most: int = LONGEST_INPUT) -> Iterator[Group]:

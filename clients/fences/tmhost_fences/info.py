@@ -9,6 +9,8 @@ OPTION = re.compile(r"""([\w.-]+)\s*=\s*("[^"]*"|'[^']*'|[^\s,{}]+)""")
 # Options of knitr and Quarto that stand in the code, as remarks in front of it.
 REMARK = re.compile(r"\s*(?:#|//|--|%%)\|\s*([\w.-]+)\s*:\s*(.*)")
 NO = ("false", "f", "no", "never")
+YES = ("true", "t", "yes")
+HIDDEN = ("hide", *NO)  # values of `results`
 NOTEBOOK = "ipynb"
 
 
@@ -55,3 +57,19 @@ def is_evaluated(options: Dict[str, str], code: Sequence[str]) -> bool:
     given = {**options, **options_in(code)}
     active: List[str] = re.split(r"[\s,]+", given.get("active", NOTEBOOK))
     return given.get("eval", "").lower() not in NO and NOTEBOOK in active
+
+
+def is_hidden(options: Dict[str, str]) -> bool:
+    """Whether the author wants nothing of what comes to be seen: by `include` of knitr, by `output` of Quarto."""
+    return any(options.get(name, "").lower() in NO for name in ("include", "output"))
+
+
+def is_without_text(options: Dict[str, str]) -> bool:
+    """Whether the author wants errors and figures alone."""
+    return options.get("results", "").lower() in HIDDEN
+
+
+def ignored(options: Dict[str, str]) -> List[str]:
+    """The options that say something else than what is done. A label says nothing that could be."""
+    obeyed: Dict[str, Sequence[str]] = {"eval": NO + YES, "include": NO + YES, "output": NO + YES, "results": (*HIDDEN, "markup"), "echo": YES}
+    return [name for name, value in options.items() if name not in ("active", "label") and value.lower() not in obeyed.get(name, ())]

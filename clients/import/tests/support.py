@@ -40,6 +40,14 @@ def notebook(*cells: object, **more: object) -> str:
     return json.dumps({"cells": cells, "metadata": PYTHON, "nbformat": 4, "nbformat_minor": 4, **more})
 
 
+def without_nbformat(folder: str) -> dict[str, str]:
+    """The environment in which there is no nbformat; the folder is made for it."""
+    os.mkdir(folder)
+    with open(os.path.join(folder, "nbformat.py"), "w", encoding="ascii") as file:
+        file.write("raise ImportError")
+    return {"PYTHONPATH": os.pathsep.join([folder, *filter(None, [os.environ.get("PYTHONPATH")])])}
+
+
 class Case(InFolder):
     def setUp(self) -> None:
         self.folder = tempfile.mkdtemp(prefix="tmhost-import-test.")

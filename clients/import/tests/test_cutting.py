@@ -7,7 +7,7 @@ from tmhost_fences.fields import LONGEST_INPUT
 from tmhost_import import cutting, ipython
 from tmhost_import.prose import size_of
 
-from .support import LINE_END, Case, code, needs_nbformat, needs_program, notebook
+from .support import LINE_END, Case, code, needs_program, notebook
 
 FILL = "x" * 1800  # two of these fit into a field, three don't
 # Code of several languages, each with the lines that must stay together, after FILL.
@@ -97,7 +97,6 @@ class IPython(unittest.TestCase):
             self.assertEqual((made.code, made.left_out, made.other), (given, [], given.strip().split()[0]))
 
 
-@needs_nbformat
 class Cells(Case):
     def test_a_long_cell_is_cut_and_all_others_stay(self) -> None:
         long = "\n\n".join(f"def f{number}():\n    return '{'y' * 1500}'" for number in range(4)) + "\nf3()[:2]"

@@ -10,7 +10,7 @@ import sys
 import tempfile
 import time
 
-from .support import COMMAND, PROGRAM, ROOT, Case, Done, code, needs_nbformat, needs_program, notebook
+from .support import COMMAND, PROGRAM, ROOT, Case, Done, code, needs_program, notebook
 
 ECHO = f"sh {ROOT}/examples/echo.sh"
 # Programs that stand before tmhost, each a text for sh; `$REAL` is tmhost itself.
@@ -30,7 +30,6 @@ def random_sheet(rng: random.Random) -> list[tuple[str, str]]:
 
 
 @needs_program
-@needs_nbformat
 class Making(Case):
     def before(self, text: str) -> dict[str, str]:
         """The environment in which a program stands before tmhost."""
@@ -65,7 +64,8 @@ class Making(Case):
             lines += [f"new {after} {name} {given}" for after, (name, given) in enumerate(fields)]
             old, new = f"old{seed}", f"new{seed}"
             self.host("create", old)
-            self.host("run", old, data="\n".join([*lines, "eval 1", "wait"]) + "\n")
+            some = next(number for number, (_, given) in enumerate(fields, 1) if given)  # an answer that shows nothing is no output
+            self.host("run", old, data="\n".join([*lines, f"eval {some}", "wait"]) + "\n")
             options = [word for name in names for word in ("--session", f"{name}={ECHO}")]
             done = self.do(*options, new, data=self.host("export", "notebook", old))
             self.assertEqual(done.status, 0, done.errors)
@@ -164,7 +164,6 @@ class Making(Case):
             self.assertFalse(glob.glob(self.place(".tmhost-import-*")))
 
 
-@needs_nbformat
 class Words(Case):
     def status(self, *words: str) -> Done:
         return self.do(*words, data=notebook(code("x")))

@@ -1,7 +1,5 @@
 """Notebooks: what of them becomes fields, and which are refused."""
-import os
-
-from .support import Case, LINE_END, PYTHON, code, needs_nbformat, notebook
+from .support import Case, LINE_END, PYTHON, code, needs_nbformat, notebook, without_nbformat
 
 MARKDOWN = {"cell_type": "markdown", "metadata": {}, "source": "# Title"}
 RAW = {"cell_type": "raw", "metadata": {}, "source": "raw"}
@@ -16,14 +14,12 @@ REFUSED: dict[str, tuple[str | bytes, str]] = {
     "a newer version": (notebook(code("x"), nbformat=5), "nbformat is '5'"),
     "a version that is true": (notebook(code("x"), nbformat=True), "nbformat is 'True'"),
     "a text as minor version": (notebook(code("x"), nbformat_minor="4"), "nbformat_minor is no number"),
-    "a minor version that never was": (notebook(code("x"), nbformat_minor=-1), "no valid notebook"),
     "no cells": (notebook().replace('"cells": []', '"cells": {}'), "its cells are no array"),
     "nothing to make a field of": (notebook(RAW), "nothing in it"),
     "a cell that is a number": (notebook(MARKDOWN, 7), "cell 2"),
     "an id that is an array": (notebook(code("x", id=[]), nbformat_minor=5), "cell 1"),
     "a source that is a number": (notebook(code("x"), code(7)), "cell 2: its source is no text"),
     "a source with a number in it": (notebook(code(["x\n", 7])), "cell 1: its source is no text"),
-    "an output of no kind": (notebook(code("x", outputs=[{"output_type": "sound"}])), "no valid notebook: cell 1"),
     "NaN": (notebook(code("x", metadata={"a": float("nan")})), "NaN is no JSON"),
     "a number of 5,000 digits": (notebook(code("x")).replace('"execution_count": null', '"execution_count": ' + "9" * 5000), "too many digits"),
     "metadata 100,000 deep": (notebook(code("x")).replace("null", "[" * 100_000 + "]" * 100_000), "nested too deep"),
@@ -46,10 +42,14 @@ REFUSED: dict[str, tuple[str | bytes, str]] = {
     "Sage, which is coloured as Python": (notebook(code("2^3"), metadata=SAGE), "'sagemath=WORDS'"),
     "65 sessions": (notebook(*[code("x", f"s{number}") for number in range(65)]), "cell 65: a worksheet has at most 64 sessions"),
 }
+# Those that nbformat refuses alone: nothing of what is wrong in them would become a field.
+INVALID: dict[str, tuple[str, str]] = {
+    "a minor version that never was": (notebook(code("x"), nbformat_minor=-1), "no valid notebook"),
+    "an output of no kind": (notebook(code("x", outputs=[{"output_type": "sound"}])), "no valid notebook: cell 1"),
+}
 ALL_SESSIONS = [word for number in range(65) for word in ("--session", f"s{number}=sh x")]
 
 
-@needs_nbformat
 class Notebooks(Case):
     def test_code_cells_become_fields_in_order(self) -> None:
         text = notebook(MARKDOWN, code(["def f(n):\n", "    return n\n", "\n"]), RAW, code(""), code("f(2)"), MARKDOWN)
@@ -127,6 +127,12 @@ class Notebooks(Case):
             with self.subTest(name):
                 self.refused(text, said, *(ALL_SESSIONS if name == "65 sessions" else []))
 
+    @needs_nbformat
+    def test_invalid_notebooks(self) -> None:
+        for name, (text, said) in INVALID.items():
+            with self.subTest(name):
+                self.refused(text, said)
+
     def test_troubles_are_reported_together(self) -> None:
         done = self.do("new", data=notebook(*[code("\1"), code("x")] * 12))
         self.assertEqual((done.status, done.errors.count("\n"), done.errors.count("U+0001")), (1, 11, 10))
@@ -134,9 +140,14 @@ class Notebooks(Case):
         self.assertIn("and 2 more like these", done.errors)
 
     def test_without_nbformat(self) -> None:
-        os.mkdir(self.place("modules"))
-        self.write("modules/nbformat.py", "raise ImportError")
-        done = self.do("new", data=notebook(code("x")), PYTHONPATH=self.place("modules"))
-        self.assertEqual(done.status, 1)
-        self.assertIn("python3-nbformat", done.errors)
-        self.assertEqual(self.do("--script", "--format", "markdown", data="```python\nx\n```\n", PYTHONPATH=self.place("modules")).status, 0)
+        """The same becomes a field, and what can't become one is refused as well."""
+        text = notebook(MARKDOWN, code(["def f(n):\n", "    return n\n"]), RAW, code("f(2)", outputs=[{"output_type": "sound"}]))
+        alone = without_nbformat(self.place("modules"))
+        done = self.do("--script", data=text, **alone)
+        news = [line for line in done.out.split("\n") if line.startswith("new ")]
+        self.assertEqual(news, ["new 0 prose # Title", f"new 1 python3 def f(n):{LINE_END}    return n", "new 2 python3 f(2)"])
+        self.assertEqual((done.status, done.errors.split("\n")[0]), (0, "tmhost-import: left out: raw cells: 1"))
+        for name, (refused, said) in REFUSED.items():
+            with self.subTest(name):
+                done = self.do("--format", "notebook", *(ALL_SESSIONS if name == "65 sessions" else []), "new", data=refused, **alone)
+                self.assertEqual((done.status, said in done.errors), (1, True), done.errors)

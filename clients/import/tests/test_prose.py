@@ -49,7 +49,12 @@ MARKDOWN: dict[str, list[tuple[str, str]]] = {
     "a\n\n```sh\nx\n```\n\n```\n1\n```\n\nb\n\n```sh\ny\n```\n\n*no answer: Ended*\n\n```sh\nz\n```\n\n````\n```\n````\n\n$x$\n\nc\n\n```sh\nu\n```\n\n$y$\n": [
         ("prose", "a"), ("sh", "x"), ("prose", "b"), ("sh", "y"), ("sh", "z"), ("prose", "c"), ("sh", "u"),
     ],
-    "```sh\nx\n```\n\n```\n1\n```\n\n```sh\ny\n```\n": [("sh", "x"), ("prose", "```|1|```"), ("sh", "y")],
+    # A field that shows nothing has none: the next field follows, or the end.
+    "```sh\nx\n```\n\n```\n1\n```\n\n```sh\ny\nz\n```\n": [("sh", "x"), ("sh", "y|z")],
+    "```sh\nx\ny\n```\n\n```sh\nz\n```\n\n```\n1\n```\n\na\n": [("sh", "x|y"), ("sh", "z"), ("prose", "a")],
+    "```sh\nx\n```\n\n```\n1\n```\n\n```sh\ny\n```\n\na\n": [("sh", "x"), ("prose", "```|1|```"), ("sh", "y"), ("prose", "a")],
+    "```sh\nx\n```\n\n```\n1\n```\n\n```sh\ny\n```\n```sh\nz\n```\n": [("sh", "x"), ("prose", "```|1|```"), ("sh", "y"), ("sh", "z")],
+    "```sh\nx\ny\n```\n\n```sh\nz\n```\n": [("sh", "x"), ("sh", "y"), ("sh", "z")],
     "```sh\nx\n```\n\n$x$ is\n": [("sh", "x"), ("prose", "$x$ is")],
 }
 # Prose that would take in what stands after it, to CommonMark or to pandoc.
@@ -78,7 +83,6 @@ READERS = (["cmark", "--unsafe"], ["pandoc", "-f", "markdown", "-t", "html"], ["
 
 
 
-@needs_nbformat
 class Imports(Case):
     def fields(self, document: str, *words: str, form: str = "notebook") -> list[tuple[str, str]]:
         return [(session, given.replace(LINE_END, "|")) for session, given in self.inputs(document, "--prose", *words, form=form)]
@@ -225,6 +229,12 @@ class Markdown(unittest.TestCase):
         self.assertEqual(self.made(given), (export("# a\n\n*b*\n", shown, "- c\n", GP, field("py", "y", "````\n```\n````\n\n$y$")), 0))
         self.assertEqual(self.made(given, "py"), (given, 0))
 
+    def test_fields_that_show_nothing(self) -> None:
+        """Nothing stands after the fence of one, in front of another field, of prose, and at the end."""
+        silent, text = "```py\nx = 1\n```\n", field("prose", "# a", NONE)
+        self.assertEqual(self.made(export(silent, silent, text, silent, GP, silent)), (export(silent, silent, "# a\n", silent, GP, silent), 0))
+        self.assertEqual(self.made("```prose\na\n```\n"), ("```prose\na\n```\n", 0))
+
     def test_what_is_no_prose_stays_byte_for_byte(self) -> None:
         for one in (field("prose", "a", "```\n1\n```"), field("prose", "a", "$x$"), field("prose-x", "a", NONE), field("py", "a", NONE), field("py", "a", f"```\n{NONE}\n```"),
                     field("py", "```prose\na\n```", NONE), field("py", "a", "````\n```prose\na\n```\n\n*no answer*\n````")):
@@ -254,7 +264,7 @@ class Markdown(unittest.TestCase):
         self.assertEqual(self.made(export(reference, field("gp", "[a]", "```\n[a]\n```")))[1], 0)
 
     def test_what_is_no_export(self) -> None:
-        for one in ("text\n", "```\na\n```\n", "```py\na\n```\n", "```py\na\n```\n\ntext\n", GP + "\n", GP + "\n\n" + GP, "```py\na\n", "```py\na\n```\n\n```x\n1\n```\n", "{}", "{", '{"cells":[{}]}', '{"cells":7}'):
+        for one in ("text\n", "```\na\n```\n", "```py\na\n```\n\n", "```py\na\n```\n```py\na\n```\n", "```py\na\n```\n\ntext\n", GP + "\n", GP + "\n\n" + GP, "```py\na\n", "{}", "{", '{"cells":[{}]}', '{"cells":7}'):
             done = subprocess.run([PROSE], input=one.encode(), capture_output=True)
             self.assertEqual((done.returncode, done.stdout), (1, b""), one)
             self.assertIn(b"it is", done.stderr.replace(b"it isn't", b"it is"))
@@ -320,7 +330,6 @@ class Notebooks(unittest.TestCase):
 
 
 @needs_program
-@needs_nbformat
 class RoundTrips(Case):
     def prose(self, data: str, *words: str) -> Done:
         done = subprocess.run([PROSE, *words], input=data.encode(), capture_output=True, cwd=self.folder)

@@ -194,7 +194,9 @@ class Front(Case):
             self.assertEqual(self.first(front, "--no-prose", "--session", "sh=c")[2:], ["new 0 mine x", "new 1 sh y"])
         self.assertEqual(self.first("---\nsessions: {mine: [a, b], sh: no}\n---\n", "--session", "mine=c")[:2], ["session mine plain c", "session sh plain no"])
         chunk = "---\nsessions: {r: [a]}\n---\n```{r}\nx\n```\n\n```r\ny\n```\n"
-        self.assertEqual([field for field in self.inputs(chunk, form="markdown") if field[0] != "prose"], [("r", "y")])
+        self.assertEqual(self.inputs(chunk, form="markdown"), [("r", "x"), ("r", "y")])
+        done = self.do("--script", self.write("a.Rmd", chunk))
+        self.assertEqual(done.out.split("\n")[1:], ["new 0 r x", "new 1 r y", ""], done.errors)
 
     @needs_markdown_it
     def test_other_front_matter(self) -> None:

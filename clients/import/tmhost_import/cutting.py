@@ -7,7 +7,7 @@ import ast
 import re
 from collections.abc import Iterator
 
-from tmhost_fences.fields import DECORATOR, GOES_ON, LONGEST_INPUT, TEXTS
+from tmhost_fences.fields import DECORATOR, GOES_ON, LONGEST_INPUT, TEXTS, left_of
 
 from .prose import size_of
 
@@ -20,7 +20,6 @@ TEXTS_OF = {
     "octave": re.compile(
         r"^[ \t]*[%#]\{[ \t]*\n.*?^[ \t]*[%#]\}[ \t]*$|\"(?:\\.|[^\"\\\n])*\"|(?<![\w)\]}'.])'(?:''|[^'\n])*'|[%#][^\n]*", re.DOTALL | re.MULTILINE
     ),
-    "R": re.compile(r"\"(?:\\.|[^\"\\])*\"|'(?:\\.|[^'\\])*'|`[^`\n]*`|#[^\n]*", re.DOTALL),
     "sh": re.compile(
         r"<<-?[ \t]*(['\"]?)(\w+)\1[^\n]*\n.*?^[ \t]*\2$|\"(?:\\.|[^\"\\])*\"|'[^']*'|\\.|(?:(?<=\s)|^)#[^\n]*", re.DOTALL | re.MULTILINE
     ),
@@ -84,13 +83,8 @@ def statements_of_python(code: str) -> list[str]:
 
 
 def without_texts(code: str, language: str) -> str:
-    """The code without texts and remarks. Of one of several lines there are brackets, which hold these together."""
-
-    def left(found: re.Match[str]) -> str:
-        line_ends = found[0].count("\n")
-        return "(" + "\n" * line_ends + ")" if line_ends else '""' if found[0][0] in "\"'`" else ""
-
-    return TEXTS_OF.get(language, OTHER_TEXTS).sub(left, code)
+    """The code without texts and remarks."""
+    return TEXTS_OF.get(language, OTHER_TEXTS).sub(left_of, code)
 
 
 def outside_of_brackets(bare: str) -> Iterator[tuple[int, str]]:

@@ -1,6 +1,7 @@
 """What `tmhost export notebook` and `tmhost export markdown` wrote, with its prose as prose and all else byte for byte.
 
-A field of prose has a session of prose by its name, and no answer: exports have no words of sessions.
+A field of prose has a session of prose by its name, and no answer: exports have no words of sessions. In a notebook an answer that shows nothing is
+as none.
 """
 import dataclasses
 import json
@@ -113,6 +114,14 @@ class Reader:
         self.at += line.startswith(FORMULA)
         return line if line.startswith(FORMULA) else ""
 
+    def shows_nothing(self) -> bool:
+        """Whether nothing stands after an input, whose answer shows nothing then: the next field follows, or the end."""
+        if self.at >= len(self.lines):
+            return True
+        blank, following, *_ = [*self.lines[self.at : self.at + 2], ""]
+        found = FENCE.fullmatch(following)
+        return not blank and found is not None and found[2] != ""
+
     def answer(self) -> tuple[bool, str]:
         """Takes what stands after an input: whether it is an answer, and the formula in it."""
         if NO_ANSWER.fullmatch(self.line()):
@@ -132,6 +141,8 @@ class Reader:
         session, given = self.fence()
         if not session:
             raise self.refuse()
+        if self.shows_nothing():
+            return Field(session, given, begin, self.at, True, "")
         self.blank()
         is_answered, formula = self.answer()
         return Field(session, given, begin, self.at, is_answered, formula)

@@ -10,6 +10,7 @@ import subprocess
 import tempfile
 
 from tmhost import find_program
+from tmhost.program import show_building
 from tmhost_fences.troubles import Trouble
 
 from .fields import Sheet
@@ -73,6 +74,7 @@ def sync(folder: str) -> None:
 def fill(made: str, sheet: Sheet) -> None:
     """Makes the worksheet in its first place."""
     host = program()
+    show_building()
     do([host, "create", made], b"", "tmhost create ended")
     script = "".join(line + "\n" for line in sheet.script()).encode("utf-8")
     try:

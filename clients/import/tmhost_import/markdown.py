@@ -49,8 +49,8 @@ def reported_of(lines: list[int]) -> list[str]:
 
 class Reader:
     """Takes the fences of a text, and with prose the lines between them. What is no field stays in the text where it stands. Of a text for
-    tmhost-weave the fences of its own sessions are code, and of those that are given. Of one whose code is in chunks (`{r, echo=FALSE}`), as
-    in knitr and Quarto, no other block is."""
+    tmhost-weave the fences of its own sessions are code, and of those that are given. Of another one whose code is in chunks
+    (`{r, echo=FALSE}`), as in knitr and Quarto, no other block is."""
 
     def __init__(self, text: str, given: Words, has_prose: bool, has_chunks: bool) -> None:
         self.lines, self.has_prose, self.has_chunks = lines_of(text), has_prose, has_chunks
@@ -71,10 +71,10 @@ class Reader:
 
     def cell_of(self, block: Block) -> Cell | None:
         """The cell of a block that is code by its first word, a language or a session."""
-        name, is_chunk = block.info.name, block.info.is_chunk
-        if not name or not block.is_evaluated or (self.has_chunks and not is_chunk):
+        name = block.info.name
+        if not name or not block.is_evaluated:
             return None
-        if self.own is not None and (is_chunk or name not in self.own):
+        if (name not in self.own) if self.own is not None else (self.has_chunks and not block.info.is_chunk):
             return None
         code = "\n".join(block.content).rstrip("\n")
         is_whole = self.is_whole or bool(block.info.flags(WHOLE))
@@ -101,16 +101,23 @@ class Reader:
             return None
         return found.end + 2 if self.one_line(found.end + 2, FORMULA) else found.end
 
+    def shows_nothing(self, block: Block, blocks: dict[int, Block]) -> bool:
+        """Whether this can be a field of an export whose answer shows nothing: the next field follows after an empty line, or the end."""
+        following = blocks.get(block.end + 1)
+        return not any(self.lines[block.end :]) or (not self.lines[block.end] and following is not None and self.is_field(following))
+
     def find_answers(self) -> dict[int, int]:
-        """The last lines of the answers, by where their fields begin. There are some where each field has one: then it is an export."""
+        """The last lines of the answers, by where their fields begin. There are some where each field has one, or shows nothing: then it is an export."""
         by_line = {block.begin: block for block in self.blocks}
-        ends = {block.begin: self.answer_end(block, by_line) for block in self.blocks if self.is_field(block)}
+        fields = [block for block in self.blocks if self.is_field(block)]
+        ends = {block.begin: self.answer_end(block, by_line) for block in fields}
         found = {begin: end for begin, end in ends.items() if end is not None}
-        if len(found) < len(ends) or not ends:
+        silent = {block.begin: block.end for block in fields if block.begin not in found and self.shows_nothing(block, by_line)}
+        if not found or len(found) + len(silent) < len(fields):
             return {}
         self.document.left_out["answers"] += len(found)
         self.document.notes += reported_of([block.end + 2 for block in self.blocks if block.end + 1 < found.get(block.begin, 0) and block.end + 1 in by_line])
-        return found
+        return found | silent
 
     # ---- cells
 

@@ -1,5 +1,7 @@
 // What a cell says of itself, in words.
 
+import { visible } from "./dom.js";
+
 /** @typedef {import("./types").Cell} Cell */
 
 /** @type {Record<string, string>} */
@@ -52,11 +54,19 @@ export function answerState(cell, { isThere, asked, isStale, hasEnded }) {
   if (cell.state === "doubtful") return ["lost", "in doubt: this answer may no longer be in the file"];
   if (cell.state === "running") return ["running", running(cell.since ?? Date.now())];
   if (cell.state === "queued") return ["queued", "waits for its turn"];
-  if (cell.state === "lost") return ["lost", `lost: ${cell.reason} (${REASONS[cell.reason ?? ""] ?? "no answer"})`];
+  if (cell.state === "lost") return ["lost", `lost: ${cell.reason} (${REASONS[cell.reason ?? ""] ?? "no answer"})${wrote(cell)}`];
   if (cell.state === "empty") return cell.output ? ["stale", "stale: an earlier answer, no longer in the file"] : ["", ""];
   if (isStale) return ["stale", "stale: a cell above it was changed since"];
   if (hasEnded) return ["ended", "its interpreter has ended: variables are gone"];
   return cell.output?.length === 0 ? ["done", "evaluated: it has no output"] : ["", ""];
+}
+
+/**
+ * What the interpreter had written before its end, which may be why.
+ * @type {(cell: Cell) => string}
+ */
+function wrote({ wrote: text }) {
+  return text ? `; it had written: ${text.split("\n").map(visible).join(" / ")}` : "";
 }
 
 const KEPT = "draft: kept, not yet the cell's text";

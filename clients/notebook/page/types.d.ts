@@ -22,6 +22,7 @@ export interface Cell {
   draft: Draft | null;
   state: "empty" | "queued" | "running" | "answered" | "lost" | "doubtful";
   reason: string | null;
+  wrote: string | null; // of one that is lost the end of what its interpreter had written beside its blocks
   since: number | null;
   took: number | null; // milliseconds
   count: number | null; // which answer of its interpreter it is

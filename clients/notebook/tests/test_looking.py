@@ -7,7 +7,7 @@ import unittest
 from typing import Any, Dict, List, Tuple
 
 import harness
-from harness import NOTEBOOK, SPOKEN, Case, Page, Server, needs_chromium, needs_program, opened
+from harness import NOTEBOOK, PROGRAM, SPOKEN, Case, Page, Server, needs_chromium, needs_program, opened
 from test_folder import FolderCase, SheetPage
 
 TROUBLE = "document.querySelector('#trouble span').textContent"
@@ -76,7 +76,8 @@ class Requests(Looking):
         self.assertEqual(self.serve().address, address)
 
     def test_without_another_program(self) -> None:
-        """It is opened as ever."""
+        """One that is there is opened as ever."""
+        subprocess.run([PROGRAM or "", "create", self.sheet], check=True, stdout=subprocess.DEVNULL)
         server = self.serve("--look")
         page = Page(server)
         self.assertEqual(page.snapshot()["isLooking"], False)

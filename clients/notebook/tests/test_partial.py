@@ -49,6 +49,15 @@ class Reading(unittest.TestCase):
                 for cut in range(len(stream)):
                     self.assertEqual(text_of(stream[:cut], stream[cut:]), wanted, cut)
 
+    def test_its_end(self) -> None:
+        """The last lines that say something, of a text of many lines and of one long one."""
+        for written, wanted in (
+            (b"", ""), (b"a\n\n", "a"), (b"".join(b"line %d\n\n" % number for number in range(9)), "\n".join(f"line {number}" for number in range(4, 9))), (b"x" * 5_000, "x" * 1_000),
+        ):
+            text = Text()
+            text.feed(written)
+            self.assertEqual(text.end, wanted)
+
     def test_it_is_bounded(self) -> None:
         text = Text()
         text.feed(b"\x02verbatim:")
@@ -300,6 +309,24 @@ class ByAnAdapter(Case):
         page.until_idle()
         self.assertNotIn("partial", page.snapshot())
         self.assertIn("KeyboardInterrupt", self.show())
+
+    def test_why_an_adapter_has_ended(self) -> None:
+        """What it says before its end stands at the cell that is lost, until that is asked again."""
+        self.server = self.serve()
+        page = Page(self.server)
+        page.call("session", name="p", words=f"{PYTHON} --no-such-word", tab=False)
+        page.call("session", name="q", words=PYTHON, tab=False)
+        lost = page.call("new", session="p", text="1 + 1", after=0)["id"]
+        other = page.call("new", session="q", text="import os; print('so far'); os._exit(3)", after=lost)["id"]
+        for id in (lost, other):
+            page.call("eval", id=id)
+        cells = page.until_idle()
+        self.assertEqual([(cells[id]["state"], cells[id]["reason"]) for id in (lost, other)], [("lost", "Ended")] * 2)
+        self.assertTrue(cells[lost]["wrote"].endswith("python: error: unrecognized arguments: --no-such-word"), cells[lost])
+        self.assertEqual(cells[other]["wrote"], "so far")
+        page.call("set", id=other, text="1 + 1", base=cells[other]["input"])
+        page.call("eval", id=other)
+        self.assertIsNone(page.until_idle()[other]["wrote"])
 
 
 if __name__ == "__main__":

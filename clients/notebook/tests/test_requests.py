@@ -175,6 +175,11 @@ class Starting(Case):
         command = [os.path.join(harness.NOTEBOOK, "tmhost-notebook"), "--no-browser", *words]
         return subprocess.run(command, capture_output=True, text=True, timeout=120, env=harness.environment())
 
+    def test_what_it_opens_is_said_first(self) -> None:
+        server = self.serve()
+        assert server.process.stderr
+        self.assertEqual(server.process.stderr.readline(), f"tmhost-notebook: opening {self.sheet}; the address of its page follows\n")
+
     def test_a_second_server_says_in_use(self) -> None:
         self.serve()
         reported = self.run_server(self.sheet)
@@ -189,6 +194,18 @@ class Starting(Case):
         self.assertIn("can't be opened", reported.stderr)
         with open(self.sheet, "rb") as file:
             self.assertTrue(file.read().startswith(b"this is a letter"))
+
+    def test_what_is_not_there(self) -> None:
+        """A look makes no worksheet, and a folder isn't made for one."""
+        for words, said in (
+            (("--look", self.sheet), f"there is no worksheet {self.sheet} to look at"),
+            ((self.sheet + "/below",), f"{self.sheet}/below can't be opened: No such file or directory: {self.sheet}/below"),
+            (("pack", self.sheet, self.sheet + ".zip"), f"No such file or directory: {self.sheet}"),
+        ):
+            command = [os.path.join(harness.NOTEBOOK, "tmhost-notebook"), *words]
+            reported = subprocess.run(command, capture_output=True, text=True, timeout=120, env=harness.environment())
+            self.assertEqual((reported.returncode, reported.stdout, reported.stderr.splitlines()[-1]), (1, "", f"tmhost-notebook: {said}"))
+        self.assertEqual(os.listdir(self.folder), [])
 
     def test_a_port_that_is_taken(self) -> None:
         server = self.serve()

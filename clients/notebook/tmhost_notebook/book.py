@@ -261,6 +261,9 @@ class Book:
             session = self.sheet.sessions.get(name)
             marked |= self.notes.lives(name, session.life if session else None)
         ran = self.notes.running(name)
+        if isinstance(event, Ended) and ran is not None:
+            written = self.partials.of(event.session)
+            self.notes.of[ran].wrote = written.end if written else None
         cells |= self.notes.take(event, name)
         if self.partials.take(event):
             telling.touch_partial(self.watchers, ran, self.notes.running(name))

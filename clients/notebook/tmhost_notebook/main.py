@@ -12,6 +12,8 @@ import webbrowser
 from typing import Iterator, List, NoReturn, Optional, Union
 
 from tmhost import Died, InUse, ProtocolError, TimedOut
+from tmhost.errors import plain
+from tmhost.program import show_building
 
 from . import packing
 from .book import Book
@@ -99,7 +101,7 @@ def pack_or_unpack(given: List[str]) -> int:
         else:
             reported = packing.unpack(given[1], given[2], None)
     except (NotDone, OSError) as error:
-        return tell(str(error))
+        return tell(plain(error))
     print("\n".join(reported))
     return 0
 
@@ -109,12 +111,16 @@ def main(given: Optional[List[str]] = None) -> int:
     if len(given) == 3 and given[0] in ("pack", "unpack"):
         return pack_or_unpack(given)
     asked = words().parse_args(given)
+    if asked.look and not os.path.exists(asked.sheet):
+        return tell(f"there is no worksheet {asked.sheet} to look at")
+    tell(f"opening {asked.sheet}; the address of its page follows")
+    show_building()
     try:
         place = shelf_of(asked.sheet) if os.path.isdir(asked.sheet) else alone(asked.sheet, asked.look)
     except InUse:
         return tell(f"{asked.sheet} is in use: another program, as a second tmhost-notebook, has it open; --look shows it as it is on the disk")
     except (Died, ProtocolError, TimedOut, OSError) as error:
-        return tell(f"{asked.sheet} can't be opened: {error}")
+        return tell(f"{asked.sheet} can't be opened: {plain(error)}")
     try:
         server = served(place, asked.port, Files(asked.libraries))
     except (OSError, OverflowError) as error:

@@ -19,6 +19,7 @@ class Note:
     old: Optional[Answer] = None  # the answer that an edit or an evaluation took away
     took: Optional[float] = None  # seconds that its interpreter worked for its answer
     count: Optional[int] = None  # which answer of that process it is
+    wrote: Optional[str] = None  # the end of what the interpreter that lost its line had written beside its blocks
 
 
 class Notes:
@@ -42,7 +43,7 @@ class Notes:
 
     def ask(self, id: int, chain: Optional[Chain]) -> None:
         note = self.of[id]
-        note.asked, note.since, note.took, note.count = chain, None, None, None
+        note.asked, note.since, note.took, note.count, note.wrote = chain, None, None, None, None
 
     def drop(self, id: int) -> None:
         self.of.pop(id, None)

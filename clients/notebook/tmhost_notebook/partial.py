@@ -10,6 +10,7 @@ from typing import Dict, List, Optional, Tuple
 from tmhost import Event, OfLife, Partial
 
 LONGEST = 20_000  # characters that are kept, the last ones
+LAST_LINES, LAST_SHOWN = 5, 1_000  # lines and characters of its end that are kept where its interpreter has ended
 LONGEST_TAG = 65  # bytes, with the separator
 DEEPEST = 32
 BEGIN, END, ESCAPE = b"\x02", b"\x05", b"\x1b"
@@ -50,6 +51,11 @@ class Text:
     @property
     def text(self) -> str:
         return self._kept.rstrip("\r")
+
+    @property
+    def end(self) -> str:
+        """The last lines that have something in them."""
+        return "\n".join([line for line in self.text.splitlines() if line.strip()][-LAST_LINES:])[-LAST_SHOWN:]
 
     @property
     def _is_shown(self) -> bool:

@@ -6,6 +6,7 @@ import threading
 from typing import Any, Callable, Dict, List, Optional, Set, Tuple
 
 from tmhost import Died, InUse, ProtocolError, TimedOut
+from tmhost.errors import plain
 
 from . import asked, folder
 from .book import Book
@@ -86,7 +87,7 @@ class Shelf:
         except InUse:
             raise NotDone(f"{name} is in use: another program, as a second tmhost-notebook, has it open") from None
         except (Died, ProtocolError, TimedOut, OSError) as error:
-            raise NotDone(f"{name} can't be opened: {error}") from None
+            raise NotDone(f"{name} can't be opened: {plain(error)}") from None
         book.is_of_folder = True
         self.closed.discard(name)
         self.books[name] = book
@@ -114,7 +115,7 @@ class Shelf:
             with self.lock:
                 does[call](name, to)
         except OSError as error:
-            raise NotDone(f"it can't be done: {error}") from None
+            raise NotDone(f"it can't be done: {plain(error)}") from None
         return {"folder": self.path, "sheets": self._facts()}
 
     def _make(self, name: str, _: str) -> None:

@@ -165,6 +165,7 @@ def cell_facts(book: "Book", field: Field) -> Message:
         "draft": {"base": draft.base, "text": draft.text} if draft and draft.text != text_of(field) else None,
         "state": state_of(book, field, note),
         "reason": field.reason,
+        "wrote": note.wrote if field.state == "lost" else None,
         "since": None if note.since is None else int(note.since * 1000),
         "took": None if note.took is None or field.state != "answered" else int(note.took * 1000),
         "count": note.count if field.state == "answered" else None,

@@ -15,8 +15,9 @@ from typing import List
 
 from support import PROGRAM, SECONDS, WORDS, Case, eventually, is_there, needs_program
 
-from tmhost import Closed, Died, InUse, NoWorksheet, ProtocolError, TimedOut, Worksheet, find_program
+from tmhost import Closed, Died, InUse, Lost, NoWorksheet, ProtocolError, TimedOut, Worksheet, find_program
 from tmhost.commands import Checkpoint
+from tmhost.errors import plain
 
 
 @needs_program
@@ -95,6 +96,14 @@ class Ends(Case):
             self.assertEqual(str(error), f"[Errno 2] No such file or directory: {path!r}")
             again = copy.copy(error)
             self.assertEqual((str(again), again.told, again.status), (str(error), error.told, 1))
+
+    def test_what_a_user_is_shown(self) -> None:
+        """Nothing of how the system counts its errors."""
+        for error, shown in (
+            (NoWorksheet("a/b"), "No such file or directory: a/b"), (PermissionError(13, "Permission denied"), "Permission denied"), (FileNotFoundError("there is no tmhost"), "there is no tmhost"),
+            (OSError(5, "Input/output error", 3), "Input/output error"), (Lost("Ended"), str(Lost("Ended"))),
+        ):
+            self.assertEqual(plain(error), shown)
 
     def test_worksheets_that_are_there_and_cannot_be_opened(self) -> None:
         """The fault is the same, and none of them is a FileNotFoundError."""

@@ -6,7 +6,7 @@ import subprocess
 import sys
 import tempfile
 import unittest
-from typing import Dict, Optional
+from typing import Dict, Optional, Tuple
 from unittest import mock
 
 from support import PACKAGE, ROOT
@@ -14,6 +14,7 @@ from support import PACKAGE, ROOT
 from tmhost import starting
 
 ASK = "import sys; sys.path.insert(0, sys.argv[1]); from tmhost import find_program; print(find_program())"
+SHOW = "import sys; sys.path.insert(0, sys.argv[1]); from tmhost.program import show_building; show_building()"
 
 
 class Program(unittest.TestCase):
@@ -55,6 +56,30 @@ class Program(unittest.TestCase):
         self.assertEqual(self.found("share", "tmhost"), program)
 
 
+class Building(unittest.TestCase):
+    """A script may have to build the program that it starts."""
+
+    def said(self, program: str) -> Tuple[int, str, str]:
+        """What is seen where it is asked for first: status, output and errors."""
+        words = [sys.executable, "-B", "-c", SHOW, PACKAGE]
+        reported = subprocess.run(words, capture_output=True, text=True, env={**os.environ, "TMHOST": program})
+        return reported.returncode, reported.stdout, reported.stderr
+
+    def test_what_a_script_says_is_seen(self) -> None:
+        with tempfile.TemporaryDirectory(prefix="tmhost-python-test.") as folder:
+            script = os.path.join(folder, "script")
+            with open(script, "w", encoding="utf-8") as file:
+                file.write('#!/bin/sh\necho "building for $*" >&2\necho its version\nexit 1\n')
+            self.assertEqual(self.said(script), (0, "", ""))  # it can't be started
+            os.chmod(script, 0o755)
+            self.assertEqual(self.said(script), (0, "", "building for --version\n"))
+
+    def test_other_programs(self) -> None:
+        """One that is no script is there already, and one that isn't there is another call's matter."""
+        for program in ("/bin/false", "/nowhere", "no-such-program"):
+            self.assertEqual(self.said(program), (0, "", ""))
+
+
 class Sessions(unittest.TestCase):
     def doubt(self, words: str, *there: str) -> Optional[str]:
         with mock.patch.object(starting, "is_found", lambda word: word in there):
@@ -73,6 +98,23 @@ class Sessions(unittest.TestCase):
             self.assertEqual(said, f"{os.path.basename(words)} by itself has no blocks for its answers: the words tmhost-{adapter} start it with an adapter")
         for words in ("sh mine.sh", "python3 -u mine.py", "gp --texmacs", "true", "./mine", "mine-2.0"):
             self.assertIsNone(self.doubt(words, words.split()[0]), words)
+
+    def test_why_an_adapter_ends(self) -> None:
+        """The last line that it says, where it ends so by itself; nothing but an adapter is started for that."""
+        with tempfile.TemporaryDirectory(prefix="tmhost-python-test.") as folder:
+            for name, text in (
+                ("tmhost-mine", 'cat; echo usage >&2; echo "no option $1" >&2; echo >&2; exit 2'), ("tmhost-well", "echo careful >&2"), ("tmhost-mute", "exit 1"),
+                ("tmhost-slow", "echo late >&2; exec sleep 60"), ("other", "echo no >&2; exit 2"),
+            ):
+                with open(os.path.join(folder, name), "w", encoding="utf-8") as file:
+                    file.write(f"#!/bin/sh\n{text}\n")
+                os.chmod(file.name, 0o755)
+            path = os.pathsep.join([folder, os.environ.get("PATH", os.defpath)])
+            with mock.patch.dict(os.environ, PATH=path), mock.patch.object(starting, "ENDS_WITHIN", 1.0):
+                for words, why in (
+                    ("tmhost-mine --x", "no option --x"), ("tmhost-well", None), ("tmhost-mute", None), ("tmhost-slow", None), ("other", None), ("tmhost-nowhere", None), ("", None),
+                ):
+                    self.assertEqual(starting.why_it_ends(words.split()), why, words)
 
     def test_that_the_adapters_start_these(self) -> None:
         sys.path.insert(0, os.path.join(ROOT, "adapters"))

@@ -8,6 +8,13 @@ from typing import Optional, Tuple, Type, Union
 DISK = 32  # the fault of a file that can't be opened
 
 
+def plain(error: BaseException) -> str:
+    """What a user is shown of an error: of one of the system what is wrong and with which file, without its number."""
+    if isinstance(error, OSError) and error.strerror:
+        return error.strerror + (f": {os.fspath(error.filename)}" if isinstance(error.filename, (str, os.PathLike)) else "")
+    return str(error)
+
+
 class TmhostError(Exception):
     """The base of all errors of this package."""
 

@@ -18,6 +18,7 @@ NOT_EMPTY, IN_USE = 34, 35
 LONGEST_SAYING = 65_536  # bytes of standard error that are kept
 PARTIAL = "--partial"
 HELP = ("help", "live")
+SCRIPT_BEGINS = b"#!"
 GRACE = 10.0  # seconds that it has for its end after that of its output
 
 Program = Union[None, str, Sequence[str]]
@@ -56,6 +57,17 @@ def words_of_program(program: Program) -> List[str]:
     if program is None:
         return [find_program()]
     return [program] if isinstance(program, str) else list(program)
+
+
+def show_building(program: Program = None) -> None:
+    """Starts a program that is a script, as that of a checkout, before it is needed. Where it has to build what it runs first, which takes minutes, it
+    says so on standard error, which a client keeps to itself later on. What else goes wrong, the next start tells."""
+    with contextlib.suppress(OSError):
+        words = words_of_program(program)
+        with open(shutil.which(words[0]) or words[0], "rb") as file:
+            is_script = file.read(len(SCRIPT_BEGINS)) == SCRIPT_BEGINS
+        if is_script:
+            subprocess.run([*words, "--version"], stdin=subprocess.DEVNULL, stdout=subprocess.DEVNULL)
 
 
 def words_of_live(words: Sequence[str], path: str, partial: bool) -> List[str]:

@@ -2,6 +2,7 @@
 
 import os
 import re
+import subprocess
 from typing import Dict, Optional, Sequence, Tuple
 
 from .program import search_path
@@ -17,6 +18,7 @@ PROGRAMS: Dict[str, Tuple[str, str]] = {
 }
 # Other names under which these programs are started.
 OTHER_NAMES = {"python": "python", "octave": "octave", "sh": "sh", "nodejs": "node", "irb": "ruby"}
+ENDS_WITHIN = 10.0  # seconds that an adapter has which is started to hear why it ends
 VERSION = re.compile(r"-?\d[\d.]*\Z")  # after a name, as in lua5.4
 
 
@@ -59,3 +61,18 @@ def doubt(words: Sequence[str]) -> Optional[str]:
     """Why a session will have no answers, as far as that is known; None where nothing is against it."""
     missing = missing_program(words)
     return missing[1] if missing else without_adapter(words)
+
+
+def why_it_ends(words: Sequence[str], folder: Optional[str] = None) -> Optional[str]:
+    """The last line that an adapter says on standard error where it ends by itself, as for a kernel or an option that there isn't: a host drops that. It is
+    started once more for this, with an empty input. None where it has nothing to say."""
+    if not words or not words[0].startswith(COMMAND):
+        return None
+    try:
+        done = subprocess.run(
+            words, stdin=subprocess.DEVNULL, stdout=subprocess.DEVNULL, stderr=subprocess.PIPE, timeout=ENDS_WITHIN, cwd=folder,
+            env={**os.environ, "PATH": search_path()})
+    except (OSError, subprocess.TimeoutExpired):
+        return None
+    lines = [line for line in done.stderr.decode("utf-8", "backslashreplace").splitlines() if line.strip()]
+    return lines[-1] if done.returncode and lines else None

@@ -5,7 +5,7 @@
     sleep SECONDS
     loop          never answers, until SIGINT ends the line
     stuck         never answers, and SIGINT does nothing
-    die           ends
+    die TEXT      ends, and says TEXT beside its blocks before that, if there is one
     count         how many lines this process has answered
     formula       a block in the answer
     error TEXT    an error
@@ -64,6 +64,7 @@ class Interpreter:
                 time.sleep(0.01)
             return b"all of it"
         if word == "die":
+            sys.stdout.write(unescaped(rest) + "\n" if rest else "")
             sys.exit(3)
         self.is_stuck = word == "stuck"
         if word in ("loop", "stuck", "sleep"):

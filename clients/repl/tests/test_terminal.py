@@ -55,6 +55,18 @@ class Lines(Case):
         terminal.send("%stop\r")
         terminal.sees(r"ended: Stopped.*\nt>\Z")
 
+    def test_what_it_has_written_before_its_end(self) -> None:
+        """That may be why it has ended. Nothing of it steers the terminal, and what it wrote for an answer is gone."""
+        self.make()
+        terminal = self.terminal(columns=400)
+        terminal.sees("t>")
+        terminal.send(f"work {self.folder}\r")
+        terminal.sees(r"^all of it\n2\]\Z")
+        terminal.send("die\r")
+        terminal.sees(r"variables are gone\)\n\(lost: #2 \(Ended\)\)\nt>\Z")
+        terminal.send("die no \\x9blicence\\x0aat all\r")
+        terminal.sees(r"variables are gone\)\n\(it had written: no \\x9blicence\nat all\)\n\(lost: #3 \(Ended\)\)\nt>\Z")
+
     def test_prompts_beside_other_sessions(self) -> None:
         """There the name of the session says whom a line goes to."""
         self.make()
@@ -416,8 +428,9 @@ class Completions(Case):
         self.assertEqual(self.pairs(), [])
 
     def test_commands(self) -> None:
+        """Words of %; the words of a session, which are listed, are as long as the path of this folder."""
         self.make(False)
-        terminal = self.terminal()
+        terminal = self.terminal(columns=400)
         terminal.sees("t>")
         terminal.send("%ses\ts\t")
         terminal.sees(r"^t> %sessions\Z")

@@ -12,8 +12,10 @@ from typing import Counter, Deque, Dict, Iterator, Optional, Tuple, Union
 from tmhost import Answer, Answered, Banner, Cell, Closed, Done, Ended, Event, Finished, LostItem, Partial, Stopped, Text, Worksheet
 
 from .console import Console
+from .texts import last_lines
 
 AGAIN = 2.0  # seconds in which a second control-C asks to stop the interpreter
+LAST_SAID, LAST_LINES = 4_000, 5  # of what an interpreter has written since its last answer: bytes that are kept, and lines that are shown at its end
 ENOUGH = 4  # so many in this time end the program, which may be waiting for one that doesn't reply
 
 
@@ -51,6 +53,7 @@ class Evaluator:
         # Of each session how many lines are to be answered, and the prompt that was reported last.
         self._asked: Counter[str] = collections.Counter()
         self._next: Dict[str, Optional[Text]] = {}
+        self._said: Dict[str, bytes] = {}  # of each session what its interpreter has written since its last block, the end of that
         self._interrupted_at = float("-inf")
         self._typed: Deque[float] = collections.deque(maxlen=ENOUGH)  # when control-C was
         worksheet.listen(self._happenings.put)
@@ -117,6 +120,7 @@ class Evaluator:
         if isinstance(happening, Partial):
             if happening.session == cell.session:
                 self.console.working(happening.data)
+            self._tell(happening)
             return None
         if self._owed[cell.id] == 1:
             if isinstance(happening, Answered) and happening.id == cell.id:
@@ -130,8 +134,11 @@ class Evaluator:
         return None
 
     def _tell(self, event: Event) -> None:
-        if isinstance(event, Banner):
+        if isinstance(event, Partial):
+            self._said[event.session] = (self._said.get(event.session, b"") + event.data)[-LAST_SAID:]
+        elif isinstance(event, Banner):
             self._next[event.session] = event.next
+            self._said.pop(event.session, None)
             self.console.banner(text_of(event))
         elif isinstance(event, Answered):
             self._heed_answer(event)
@@ -146,6 +153,7 @@ class Evaluator:
         self._owed[event.id] -= 1
         self._asked[event.session] -= 1
         self._next[event.session] = event.next
+        self._said.pop(event.session, None)
 
     def _show(self, id: int, input: str, answer: Answer) -> None:
         self.console.answer(input, answer)
@@ -159,7 +167,10 @@ class Evaluator:
             self._owed[id] -= 1
         self._asked[event.session] -= len(ids)
         self._next.pop(event.session, None)
+        said = last_lines(self._said.pop(event.session, b""), LAST_LINES)
         self.console.note(f"the interpreter of {event.session} has ended: {reason}; its variables are gone")
+        if said and isinstance(event, Ended):
+            self.console.note("it had written: " + "\n".join(said))
         if ids:
             self.console.fail("lost: " + ", ".join(f"#{id}" for id in ids) + f" ({reason})")
 

@@ -8,6 +8,8 @@ from types import FrameType
 from typing import List, Optional
 
 from tmhost import BadLine, Refused, TmhostError, Worksheet
+from tmhost.errors import plain
+from tmhost.program import show_building
 
 from .commands import PROSE, Commands, Mistake, ensure, explained
 from .completion import Draft
@@ -41,6 +43,7 @@ def opened(given: argparse.Namespace, console: Console) -> Worksheet:
             raise Mistake(f"there is no worksheet {given.sheet}: --create makes it")
         if console.choose(f"There is no worksheet {given.sheet}. Make it? [y]es, [n]o:", "yn") != "y":
             raise Mistake("no worksheet was made")
+    show_building()
     return Worksheet(given.sheet, create=True, partial=console.is_terminal)
 
 
@@ -156,5 +159,5 @@ def reported(given: argparse.Namespace, console: Console) -> int:
         os.dup2(os.open(os.devnull, os.O_WRONLY), sys.stdout.fileno())
         return LOST
     except (TmhostError, OSError) as error:
-        console.note(str(error))
+        console.note(plain(error))
         return LOST

@@ -2,7 +2,7 @@
 
 import re
 import unicodedata
-from typing import Optional
+from typing import List, Optional
 
 from tmhost import Text, readable
 
@@ -29,11 +29,15 @@ def harmless(text: Text) -> str:
     return "\n".join(harmless_line(line) for line in readable(text).replace(LINE_END, "\n").split("\n"))
 
 
-def last_line(said: bytes) -> str:
-    """The last line of what an interpreter has written beside its blocks, or in one that isn't complete."""
+def last_lines(said: bytes, count: int) -> List[str]:
+    """The last lines, so many at most, of what an interpreter has written beside its blocks, or in one that isn't complete."""
     text = re.sub(rb"\x02[^:#]*[:#]|[\x05\x1b]", b"", said).decode("utf-8", "replace")
     lines = [line for line in re.split(r"[\r\n]", text) if line.strip()]
-    return harmless_line(lines[-1].replace("\t", " ")) if lines else ""
+    return [harmless_line(line.replace("\t", " ")) for line in lines[-count:]]
+
+
+def last_line(said: bytes) -> str:
+    return "".join(last_lines(said, 1))
 
 
 def cut(text: str, width: int) -> str:

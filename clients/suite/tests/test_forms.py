@@ -175,6 +175,13 @@ class Notebooks(Forms):
         text = self.run_suite("--convert", path).output
         self.assertEqual(self.verdicts(self.put("a.md", text)), ["ok", "ok", "differs"], text)
 
+    def test_lines_that_ipython_alone_knows(self) -> None:
+        """They are errors of Python, so it is said what evaluates them."""
+        path = self.notebook("python", [("1", [self.result("1")]), ("# NBVAL_SKIP\n%skipped", []), ("%matplotlib inline\n2", []), ("!ls", []), ("5 != 6\nx = (7\n % 2)", [])])
+        ran = self.run_suite(path)
+        self.assertEqual(ran.output.splitlines()[0], f"{path}: lines that IPython alone knows: 2, the first of cell 3: %matplotlib inline; --words 'tmhost-jupyter python3' evaluates by it")
+        self.assertNotIn("IPython", self.run_suite("--words", self.words_of_the_tests(), path).output)
+
     def test_tags_and_remarks_of_nbval(self) -> None:
         error = {"output_type": "error", "ename": "KeyError", "evalue": "1", "traceback": []}
         cells: List[Any] = [

@@ -1,6 +1,7 @@
 """Suites that can't be read or run, in all reports; TAP of both versions."""
 import importlib
 import json
+import os
 import shutil
 import subprocess
 import unittest
@@ -44,6 +45,13 @@ class Troubles(Case):
         self.assertEqual([json.loads(line)["file"] for line in self.read(lines).splitlines()], [self.path, *self.broken])
         self.assertEqual(ran.output.count("::error file="), len(self.broken))
         self.assertEqual(self.read(self.place("tap")).count("\nnot ok "), len(self.broken))
+
+    def test_a_report_without_its_place(self) -> None:
+        """That is said before anything is evaluated, so no worksheet of a run is there."""
+        for option, path, why in (("--tap", self.place("none/tap"), f"there is no folder {self.place('none')}"), ("--junit", self.folder, f"{self.folder} is a folder")):
+            ran = self.run_suite(self.path, option, path)
+            self.assertEqual((ran.status, ran.output, ran.errors), (1, "", f"tmhost-suite: {option}: {why}\n"))
+        self.assertFalse(os.path.exists(self.path + ".run"))
 
     def test_lines_of_json_are_by_the_schema(self) -> None:
         try:

@@ -8,7 +8,7 @@ from fractions import Fraction
 from typing import Callable, List, Tuple
 
 from . import support  # noqa: F401
-from tmhost_suite.rules import Normal, Rules, as_wanted
+from tmhost_suite.rules import Normal, Rules, as_wanted, exactly
 
 
 def alike(wanted: str, got: str, rules: Rules = Rules()) -> bool:
@@ -21,6 +21,15 @@ class Lines(unittest.TestCase):
         self.assertFalse(alike("a\nb", "a\nb "))
         self.assertFalse(alike("a\nb", "a"))
         self.assertFalse(alike("3.0", "3.00"))
+
+    def test_a_pattern_of_a_text_alone(self) -> None:
+        """It matches that text and no other, and its blanks, signs and remarks stand as people write them."""
+        self.assertEqual(exactly("<a b at 0x.> - [1, 2] # & ~"), r"<a b at 0x\.> - \[1, 2\] # & ~")
+        chance = random.Random(7)
+        for _ in range(3_000):
+            text, other = ("".join(chance.choices(" -#&~\\.[](){}*+?^$|ab", k=chance.randint(0, 4))) for _ in range(2))
+            pattern = exactly(text)
+            self.assertEqual([bool(re.fullmatch(pattern, one)) for one in (text, other)], [True, other == text], pattern)
 
     def test_patterns_are_of_one_line(self) -> None:
         self.assertTrue(alike("a[0-9]+ (re)\nz", "a17\nz"))

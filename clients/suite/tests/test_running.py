@@ -91,6 +91,16 @@ class Verdicts(Case):
         self.write(case("say x", "x"), more="folder: none\n")
         self.assertIn("`folder` is " + self.place("none") + ", which is no folder", self.run_suite(self.path).errors)
 
+    def test_why_no_case_has_an_answer(self) -> None:
+        """What the adapter of a session says when it ends, which its interpreter's host drops."""
+        self.write(case("1", "1", "c"), case("say x", "x"))
+        with open(self.path, encoding="utf-8") as file:
+            text = file.read().replace("sessions:\n", "sessions:\n  c: [tmhost-python, --no-such-word]\n")
+        with open(self.path, "w", encoding="utf-8") as file:
+            file.write(text)
+        self.assertEqual(self.verdicts(self.path), ["differs", "ok"])
+        self.assertIn("no case of the session c has an answer: python: error: unrecognized arguments: --no-such-word\n", self.outcome.output)
+
     def test_what_takes_down_comes_last(self) -> None:
         self.write(case("say end", "end", "a {teardown}"), case("say 1", "1"))
         self.assertEqual(self.verdicts(self.path), ["ok", "ok"])

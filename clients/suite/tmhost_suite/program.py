@@ -12,6 +12,7 @@ from concurrent.futures import ThreadPoolExecutor
 from typing import Callable, Dict, Iterator, List, Optional, Tuple
 
 from tmhost import TmhostError, Worksheet
+from tmhost.program import show_building
 from tmhost_weave.files import put
 from tmhost_fences.troubles import Trouble
 
@@ -143,6 +144,7 @@ class Runner:
         for at, path in enumerate(real):
             if path in real[:at]:
                 raise Trouble(f"{self.given.suites[at]} is named twice")
+        self._refuse_places()
         if self.given.runs:
             os.makedirs(self.given.runs, exist_ok=True)
         paths = self.given.suites[number - 1 :: parts]
@@ -169,6 +171,17 @@ class Runner:
         if not self.chosen and parts == 1 and (self.given.only or self.given.tags):
             raise Trouble("no case is one of those that are to be run")
         return not self.troubles and all(one.verdict in PASSED or one.verdict == "out" for one in reported)
+
+    def _refuse_places(self) -> None:
+        """A report that can't be written where it is wanted is refused before anything is evaluated, which may take hours."""
+        for name in FORMATS:
+            path: Optional[str] = getattr(self.given, name)
+            if path is None or path == "-":
+                continue
+            if not os.path.isdir(os.path.dirname(path) or "."):
+                raise Trouble(f"--{name}: there is no folder {os.path.dirname(path)}")
+            if os.path.isdir(path):
+                raise Trouble(f"--{name}: {path} is a folder")
 
     def _break_off(self) -> None:
         """Ends what runs, at once: what is done stands in the worksheets, and another run goes on from there."""
@@ -293,6 +306,7 @@ def main(words: List[str]) -> int:
                 sys.stdout.write(text)
                 sys.stderr.write("".join(f"tmhost-suite: {line}\n" for line in said))
             return 0
+        show_building()
         return 0 if Runner(given, standard()).run() else 1
     except (Trouble, TmhostError) as trouble:
         print(f"tmhost-suite: {trouble}", file=sys.stderr)

@@ -11,13 +11,14 @@ import shlex
 import textwrap
 from typing import Any, Callable, Dict, Iterator, List, Optional, Tuple
 
+from tmhost import readable
 from tmhost_fences.blocks import LINE, cut
 from tmhost_fences.fields import LINE_END, Group, groups, language_in, whole
 from tmhost_fences.troubles import Missing, Trouble
 
 from .cases import Case, Marks, Suite
 from .forms import FOLDER, GAP, GP, OCTAVE, PYTHON, SHELL, Session, lines_of, own_case, session_of, whole_case
-from .rules import ANY_LINES, BY_GLOB, BY_PATTERN, PICTURES, Rules
+from .rules import ANY_LINES, BY_GLOB, BY_PATTERN, PICTURES, Rules, exactly
 from .text import Text
 from .transcripts import is_gap, is_octave, read_gap, read_octave
 
@@ -26,6 +27,8 @@ NO_END, ESCAPED = " (no-eol)", " (esc)"
 CONTROL = re.compile(r"[\x00-\x08\x0a-\x1f\x7f]")
 FORMULA = re.compile(r"\s*(\${1,2})([^$]+)\1\s*")
 PICTURE_TYPES = ("image/svg+xml", "image/png", "image/jpeg")
+LONGEST_QUOTE = 60  # characters of a line, in a message
+IPYTHONS = re.compile(r"[ \t]*(%%?[a-zA-Z]|![^=])")  # the beginning of a line that is a magic or a command of the shell
 NBVAL = re.compile(r"^[ \t]*# ?(NBVAL_\w+|PYTEST_VALIDATE_IGNORE_OUTPUT)", re.MULTILINE)
 SKIPPING, FREEING = ("nbval-skip", "skip-execution"), ("nbval-ignore-output", "pytest-validate-ignore-output")
 PLAIN_TAG = re.compile(r"[\w.:-]+")
@@ -42,7 +45,7 @@ def wanted_of(example: doctest.Example) -> str:
         return "\n".join([ANY_LINES, *example.exc_msg.rstrip("\n").split("\n")])
     lines = ["" if line == "<BLANKLINE>" else line for line in example.want.rstrip("\n").split("\n")]
     if example.options.get(doctest.ELLIPSIS):
-        lines = [line if line == ANY_LINES or ANY_LINES not in line else ".*".join(map(re.escape, line.split(ANY_LINES))) + BY_PATTERN for line in lines]
+        lines = [line if line == ANY_LINES or ANY_LINES not in line else ".*".join(map(exactly, line.split(ANY_LINES))) + BY_PATTERN for line in lines]
     return "\n".join(lines)
 
 
@@ -105,10 +108,10 @@ def cram_line(line: str) -> str:
     its globs have no brackets, but backslashes."""
     line = line[2:]
     if line.endswith(ESCAPED):
-        return "|".join(re.escape(text) for text in (line, without_escapes(line[: -len(ESCAPED)]))) + BY_PATTERN
+        return "|".join(exactly(text) for text in (line, without_escapes(line[: -len(ESCAPED)]))) + BY_PATTERN
     if line.endswith(BY_GLOB) and re.search(r"[\\[]", line):
         parts = re.findall(r"\\[*?\\]|.", line[: -len(BY_GLOB)])
-        return "".join({"*": ".*", "?": "."}.get(part) or re.escape(part[-1]) for part in parts) + BY_PATTERN
+        return "".join({"*": ".*", "?": "."}.get(part) or exactly(part[-1]) for part in parts) + BY_PATTERN
     return line
 
 
@@ -179,7 +182,7 @@ def output_of(output: Dict[str, Any], language: str) -> str:
         if language == "python":
             return f"{ANY_LINES}\n{output.get('ename')}: {output.get('evalue')}"
         said = str(output.get("evalue")).strip().split("\n")[-1].rpartition(": ")[2]
-        return f"{ANY_LINES}\n.*{re.escape(said)}{BY_PATTERN}\n{ANY_LINES}"
+        return f"{ANY_LINES}\n.*{exactly(said)}{BY_PATTERN}\n{ANY_LINES}"
     data = output.get("data", {})
     formula = FORMULA.fullmatch(text_in(data.get("text/latex")))
     if formula:
@@ -207,7 +210,17 @@ def read_notebook(path: str, text: str, session: Session) -> Suite:
         raise Trouble(f"the notebook is in {language}: --words names the interpreter of its cells")
     raw = sum(text_in(cell.get("source")).count("\n") + 1 for cell in notebook["cells"] if cell.get("cell_type") == "raw")
     left_out = (f"{lines_of(raw, 'raw cells')}, which are no Markdown",) if raw else ()
-    return Suite(path, dict([session]), Rules(without=frozenset([PICTURES])), None, tuple(cases), after, left_out, folder=os.path.dirname(os.path.abspath(path)))
+    doubts = lines_of_ipython(path, cases) if session == PYTHON else ()
+    folder = os.path.dirname(os.path.abspath(path))
+    return Suite(path, dict([session]), Rules(without=frozenset([PICTURES])), None, tuple(cases), after, left_out, doubts, folder)
+
+
+def lines_of_ipython(path: str, cases: List[Case]) -> Tuple[str, ...]:
+    """What is said of a notebook with lines that IPython alone knows: to Python each is an error."""
+    found = [(case.line, readable(line.strip())[:LONGEST_QUOTE]) for case in cases if case.marks.skip is None for line in case.lines if IPYTHONS.match(line)]
+    if not found:
+        return ()
+    return (f"{path}: lines that IPython alone knows: {len(found)}, the first of cell {found[0][0]}: {found[0][1]}; --words 'tmhost-jupyter python3' evaluates by it",)
 
 
 def notebook_case(session: str, cell: Dict[str, Any], language: str, number: int, before: str) -> Optional[Case]:

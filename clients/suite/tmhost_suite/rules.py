@@ -172,6 +172,11 @@ def match(wanted: Sequence[str], got: Sequence[str], rules: Rules) -> bool:
     return all(line == ANY_LINES for line in wanted[at:])
 
 
+def exactly(text: str) -> str:
+    """A pattern of this text alone, in which what means nothing in a pattern stands as it is, as blanks do: people read it."""
+    return re.sub(r"\\([ \-#&~])", r"\1", re.escape(text))
+
+
 def as_wanted(text: str) -> List[str]:
     """The lines of an answer, as they are wanted exactly. What would be read as a pattern is written as one that matches itself alone."""
-    return [re.escape(line) + BY_PATTERN if line == ANY_LINES or line.endswith((BY_PATTERN, BY_GLOB)) else line for line in text.split("\n")]
+    return [exactly(line) + BY_PATTERN if line == ANY_LINES or line.endswith((BY_PATTERN, BY_GLOB)) else line for line in text.split("\n")]

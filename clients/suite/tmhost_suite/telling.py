@@ -3,7 +3,7 @@ import sys
 import threading
 from typing import Dict, List, Set, TextIO, Tuple
 
-from tmhost.starting import doubt, without_adapter
+from tmhost.starting import doubt, why_it_ends, without_adapter
 
 from .cases import Suite
 from .reports import Reported, readable
@@ -70,7 +70,7 @@ class Teller:
             if any(reported.is_wrong for reported in own) and all(reported.got.startswith(SILENT) for reported in own):
                 words = own[0].suite.sessions[name]
                 named = doubt(words) if "/" not in words[0] else None  # a path is that in the folder in which it is started
-                why = named or f"do its words start an interpreter here? {' '.join(words)}"
+                why = named or why_it_ends(words, own[0].suite.folder) or f"do its words start an interpreter here? {' '.join(words)}"
                 self.say(readable(f"{path}: no case of the session {name} has an answer: {why}"))
 
     def tell_slowest(self, all_reported: List[Reported], count: int) -> None:

@@ -21,7 +21,8 @@ and its prose as what Markdown says. What can't be set stays as its TeX, and all
   --markdown-it FILE  markdown-it itself (markdown-it.js of Debian's package libjs-markdown-it)
   --help              show this
 
-status: 0, also where formulas stay as their TeX; 1 where something can't be read, written or started; 2 where these words are refused
+status: 0, also where formulas stay as their TeX; 1 where something can't be read, written or started; 2 where these words are refused.
+Where KaTeX or markdown-it can't be started the page is written all the same, as it was.
 `;
 const USAGE = HELP.split("\n")[0];
 const KATEX = ["/usr/share/nodejs/katex/dist/katex.js", "/usr/share/javascript/katex/katex.js"];
@@ -141,9 +142,27 @@ function titled(page, title) {
 async function run(words) {
   const { report, help, seconds, means, page, title } = readWords(words);
   if (help) return write(HELP);
-  const made = await typeset(await readPage(page), means, Date.now() + 1000 * seconds);
-  await write(title === null ? made.page : titled(made.page, title));
+  const before = await readPage(page);
+  /** @type {(page: Buffer) => Promise<void>} */
+  const writeTitled = (after) => write(title === null ? after : titled(after, title));
+  const made = await orUnset(typeset(before, means, Date.now() + 1000 * seconds), () => writeTitled(before));
+  await writeTitled(made.page);
   tell(made.left, made, report);
+}
+
+/**
+ * What comes of a task. Where KaTeX or markdown-it can't be started, the page is written without them, so that nobody finds an empty file.
+ * @template T
+ * @type {(task: Promise<T>, writeUnset: () => Promise<void>) => Promise<T>}
+ */
+async function orUnset(task, writeUnset) {
+  try {
+    return await task;
+  } catch (error) {
+    if (!(error instanceof NotStarted)) throw error;
+    await writeUnset();
+    throw new Fault(1, `${error.message}. The page has its formulas and prose as they were`);
+  }
 }
 
 /** @type {(words: string[]) => Promise<void>} */
@@ -151,10 +170,9 @@ async function main(words) {
   try {
     await run(words);
   } catch (error) {
-    const fault = error instanceof NotStarted ? new Fault(1, error.message) : error;
-    if (!(fault instanceof Fault)) throw error;
-    process.stderr.write(`tmhost-typeset: ${fault.message}\n${fault.status === 2 ? USAGE + "\n" : ""}`);
-    process.exitCode = fault.status;
+    if (!(error instanceof Fault)) throw error;
+    process.stderr.write(`tmhost-typeset: ${error.message}\n${error.status === 2 ? USAGE + "\n" : ""}`);
+    process.exitCode = error.status;
   }
 }
 

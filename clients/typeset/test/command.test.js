@@ -73,7 +73,8 @@ test("without time all stays", () => {
 });
 
 test("faults", () => {
-  assert.deepEqual([run(page, "--katex", "/nowhere.js").status, run(page, "--katex", "/nowhere.js").page.length], [1, 0]);
+  assert.deepEqual([run(page, "--katex", "/nowhere.js").status, run(page, "--katex", "/nowhere.js").page.toString()], [1, page]);
+  assert.equal(run(page, "--katex", "/nowhere.js", "--title", "Sums").page.toString(), page.replace("<title>page<", "<title>Sums<").replace('<h1 dir="ltr">page<', '<h1 dir="ltr">Sums<'));
   assert.match(run(page, "--katex", "/nowhere.js").reported, /KaTeX can't be started from \/nowhere.js/);
   assert.match(run("", "/nowhere.html").reported, /the page can't be read/);
   assert.equal(run("", "/nowhere.html").status, 1);
@@ -103,7 +104,7 @@ test("without the notebook beside it", () => {
   const alone = path.join(folder, "clients", "typeset");
   fs.cpSync(path.dirname(COMMAND), alone, { recursive: true });
   const { status, stdout, stderr } = spawnSync(process.execPath, [path.join(alone, "tmhost-typeset")], { input: page });
-  assert.deepEqual([status, stdout.length], [1, 0]);
+  assert.deepEqual([status, stdout.toString()], [1, page]);
   assert.match(stderr.toString(), /^tmhost-typeset: clients\/notebook has to be beside clients\/typeset: [^\n]+\n$/);
 });
 

@@ -100,8 +100,8 @@ test("bytes that are no UTF-8, and a field of an older page", options, () => {
 test("without markdown-it, and without time", options, () => {
   const before = pageOf("page", [prose("*a*")]);
   const { status, page, reported } = run(before, "--markdown-it", "/nowhere.js");
-  assert.deepEqual([status, page.length], [1, 0]);
-  assert.equal(reported, "tmhost-typeset: markdown-it can't be started from /nowhere.js; Debian has it in the package libjs-markdown-it\n");
+  assert.deepEqual([status, page.toString()], [1, before]);
+  assert.equal(reported, "tmhost-typeset: markdown-it can't be started from /nowhere.js; Debian has it in the package libjs-markdown-it. The page has its formulas and prose as they were\n");
   assert.equal(run(before, "--no-prose", "--markdown-it", "/nowhere.js").page.toString(), before);
   assert.equal(run(before, "--seconds", "0").page.toString(), before);
   assert.equal(run(pageOf("page", [{ output: "x" }]), "--markdown-it", "/nowhere.js", "--katex", "/nowhere.js").status, 0);

@@ -164,10 +164,11 @@ class Reading(unittest.TestCase):
         for info, flags in [
             ("py", []), ("py {hide}", ["hide"]), ("py {.hide fold}", ["fold", "hide"]), ("{.py .pure}", ["pure"]), ("{.py}", []), ("py title=x {whole}", ["whole"]),
             ("py {1,3-4}", []), ("py {.numberLines #a b=c}", []), ("\tpy\t{hide}", ["hide"]),
+            ("{py}", []), ("{py plot, echo=FALSE}", []), ("{py hide, whole}", []),
         ]:
             fence = self.one(f"~~~ {info}\nx\n~~~\n").fences[0]
             self.assertEqual((fence.session, sorted(fence.flags)), ("py", flags), info)
-        for info in ["python", "py{hide}", "{py}", "", "c {hide}", "{hide}", "{#py}", "tmhost-answer"]:
+        for info in ["python", "py{hide}", "{python}", "{py, eval=FALSE}", "", "c {hide}", "{hide}", "{#py}", "tmhost-answer"]:
             self.assertEqual(self.one(f"~~~ {info}\nx\n~~~\n").fences, [], info)
         with self.assertRaisesRegex(Trouble, "line 4: 'hidden'"):
             self.one("```py {hidden}\nx\n```\n")

@@ -144,6 +144,30 @@ class Weaving(Case):
         self.assertIn("  ```\n  ```tmhost-error\n  d\n  e\n  ```\n", woven)
         self.assertEqual(self.weave(woven), woven)
 
+    def test_how_many_errors(self) -> None:
+        """They are answers, so the status is 0. The lines are those of their code in the text as it stands then."""
+        text = self.front("a", "b") + fences([("a", "x"), ("a", "y\nerror |one"), ("b {hide}", "error |two"), ("a", "z"), ("a {pure}", "error |three")])
+        self.write(text)
+        done = self.run_weave()
+        lines = [str(at) for at, line in enumerate(self.read().split("\n"), 1) if line.startswith("error |")]
+        said = f"{self.text}: 3 errors: lines {', '.join(lines)}\n"
+        self.assertEqual((done.status, len(lines), done.errors.endswith(said)), (0, 3, True), done.errors)
+        for words in ([self.text], ["--check", self.text], ["--test", self.text]):
+            self.assertEqual(self.run_weave(*words), (0, "", said))
+        self.write(text)
+        aside = [str(at) for at, line in enumerate(text.split("\n"), 1) if line.startswith("error |")]
+        self.assertIn(f": 3 errors: lines {', '.join(aside)}\n", self.run_weave("--output", self.place("other.md"), self.text).errors)
+        woven = self.weave(self.front("a") + fences([("a", "x\nerror |one")]))
+        self.assertEqual(self.run_weave().errors, f"{self.text}: 1 error: line {woven.split(chr(10)).index('error |one') + 1}\n")
+        self.weave(self.front("a") + fences([("a", "\n".join(["error |one"] * 30))]))
+        self.assertRegex(self.run_weave().errors, r"30 errors: lines (\d+, ){20}\.\.\n\Z")
+
+    def test_lines_of_what_failed(self) -> None:
+        self.write(self.front("a") + fences([("a", "x"), ("a", "die"), ("a", "y")]))
+        done = self.run_weave()
+        at = self.read().split("\n").index("die") + 1
+        self.assertEqual((done.status, f"{self.text}: line {at}: a: no answer: Ended\n" in done.errors), (1, True), done.errors)
+
     def test_what_a_replay_shows(self) -> None:
         """Where an interpreter answers otherwise now, that is reported of the answers that are kept."""
         self.write("one", self.place("file"))
@@ -233,7 +257,6 @@ class Weaving(Case):
             ("r {hide}", none.format("r")),
             ("{.r .whole}", none.format("r")),
             ("{#one .a .fold}", "no session is named here, so this fence isn't evaluated"),
-            ("{a}", "the chunk {a} isn't evaluated: a fence of the session begins with a or {.a}"),
         ):
             with self.subTest(info):
                 text = self.front("a") + "```a\nx\n```\n\n> ```" + info + "\n> y\n> ```\n"
@@ -248,6 +271,53 @@ class Weaving(Case):
             self.assertEqual((done.status, done.output), (1, ""))
             self.assertEqual(done.errors.split("\n")[:2], [f"{self.text}: line 1: {none.format('r')}", f"{self.text}: line 5: {none.format('python')}"])
             self.assertIn("Fences: {r} (1), {python} (1)", done.errors)
+
+    def test_chunks_of_sessions(self) -> None:
+        """As knitr and Quarto have them. Their options stay as they are."""
+        off = "```{a, eval=FALSE}\nu\n```\n\n```{a}\n#| eval: false\nu\n```\n\n"
+        chunks = [("{a}", "x"), ('{a plot, echo=FALSE, fig.cap="a {b}"}', "y"), ("{a whole, hide=TRUE}", "z"), ("a", "w"), ("{a, eval=TRUE}", "quiet")]
+        given = self.front("a") + off + fences(chunks)
+        for name in ("text.Rmd", "text.qmd"):
+            with self.subTest(name):
+                self.text, self.sheet = self.place(name), self.place("text.sheet")
+                woven = self.weave(given)
+                lines = [code for _, code in chunks]
+                self.assertEqual(self.logged("a"), lines)
+                wanted = given
+                for at, (info, code) in enumerate(chunks[:4], 1):
+                    fence = f"```{info}\n{code}\n```\n"
+                    wanted = wanted.replace(fence, f"{fence}\n```tmhost-answer\n{value(lines[:at])}\n```\n")
+                self.assertEqual(woven, wanted)
+                self.assertEqual(self.weave(woven), woven)
+                self.assertEqual(self.logged("a"), [])
+                os.remove(self.sheet)
+
+    def test_options_of_a_chunk(self) -> None:
+        """What is hidden is evaluated all the same, and comes back where the option goes. Each option that is ignored is named once."""
+        picture = 'picture |image/svg+xml|<svg xmlns="http://www.w3.org/2000/svg" width="9" height="9"/>'
+        hidden = [("{a, include=FALSE}", "x"), ("{a}", "#| include: false\ny"), ("{a, results='hide'}", "z\nerror b\\n|no\n" + picture)]
+        text = self.front("a") + fences(hidden) + fences([("{a, echo=FALSE, fig.width=4}", "w"), ("{a plot, echo=FALSE, error=TRUE, echo=FALSE}", "v")])
+        self.write(text)
+        done = self.run_weave()
+        lines = ["x", "#| include: false", "y", "z", "error b\\n|no", picture, "w", "v"]
+        self.assertEqual((done.status, self.logged("a")), (0, lines))
+        first, second = (text[: text.index(info)].count("\n") + 1 for info in ("{a, echo", "{a plot"))
+        self.assertEqual(done.errors.split("\n")[0], f"{self.text}: options that are ignored: echo (line {first}), error (line {second}), fig.width (line {first})")
+        woven = self.read()
+        self.assertEqual(answers(woven), [value(lines[:7]), value(lines)])
+        self.assertEqual((woven.count("```tmhost-error\nno\n```"), woven.count("![](text.pictures/")), (1, 1))
+        self.assertEqual(self.weave(woven), woven)
+        seen = self.weave(woven.replace("include=FALSE", "include=TRUE").replace("results='hide'", "results='markup'"))
+        self.assertEqual((self.logged("a"), answers(seen)), ([], [value(lines[:1]), value(lines[:4]), "b", value(lines[:7]), value(lines)]))
+
+    def test_lines_of_a_chunk(self) -> None:
+        """Each is a field, and each chunk is one where the front matter says so. A remark with an option is a line of it."""
+        text = self.front("a") + "> ```{a}\n> #| echo: false\n> x\n> ```\n"
+        self.weave(text)
+        self.assertEqual(self.logged("a"), ["#| echo: false", "x"])
+        os.remove(self.sheet)
+        self.weave(text.replace("sessions:", "fences: whole\nsessions:", 1))
+        self.assertEqual(self.logged("a"), ["#| echo: false\u2028x"])
 
     def test_fences_that_are_not_to_be_evaluated(self) -> None:
         shown = "```a {eval=FALSE}\nx\n```\n\n```a\n#| eval: false\ny\n```\n\n```{.a eval=no}\nz\n```\n\n"
@@ -273,6 +343,14 @@ class Weaving(Case):
 
 
 class Failures(Case):
+    def test_why_an_adapter_has_ended(self) -> None:
+        """It stands on standard error, once for its session; the text has what a host knows."""
+        text = "---\nsessions: {p: [tmhost-python, --no-such-word]}\n---\n" + fences([("p", "1"), ("p {pure}", "2"), ("p {pure}", "3")])
+        self.write(text)
+        done = self.run_weave(self.text)
+        self.assertEqual((done.status, self.read().count("no answer: Ended")), (1, 3))
+        self.assertEqual(done.errors.count("p: python: error: unrecognized arguments: --no-such-word\n"), 1)
+
     def test_lost(self) -> None:
         text = self.front("a", "b") + fences([("a", "x\ndie\ny\nz"), ("b", "x"), ("a", "w"), ("a {pure}", "p"), ("a {hide}", "v")])
         for _ in range(2):

@@ -2,11 +2,12 @@
 import collections
 import dataclasses
 import re
-from typing import Counter, FrozenSet, List, Optional, Sequence, Tuple
+from typing import Counter, Dict, FrozenSet, List, Optional, Sequence, Tuple
 
 from tmhost_fences.blocks import FENCE, LINE, Block, block_of, cut, tokens_of
 from tmhost_fences.fields import Group, groups, language_in, whole
 from tmhost_fences.front import Sessions, front_of
+from tmhost_fences.info import is_hidden, is_without_text
 from tmhost_fences.troubles import Trouble
 
 from .answers import Finder, Shown, is_of_an_answer, lines_of
@@ -15,6 +16,7 @@ BARE_WORD = re.compile(r"[A-Za-z][A-Za-z-]*")
 TAB = 4  # columns
 HIDE, FOLD, PURE, WHOLE = "hide", "fold", "pure", "whole"
 FLAGS = (HIDE, FOLD, PURE, WHOLE)
+TEXTLESS = "textless"  # no text of an answer is shown, as by `results='hide'`
 LONGEST_NAME = 40  # characters of what isn't a session's, in a message
 
 
@@ -49,24 +51,24 @@ class Fence:
 
 
 def named_in(block: Block, sessions: Sessions) -> Optional[Tuple[str, FrozenSet[str]]]:
-    """The session that a fence names, and the flags that it has: `py {hide}` or `{.py .hide}`. One with `eval=FALSE` is text."""
+    """The session that a fence names, and the flags that it has: `py {hide}` or `{.py .hide}`; a chunk has none, but options, as
+    `{py plot, include=FALSE}`. One with `eval=FALSE` is text."""
     info = block.info
-    if info.is_chunk or info.name not in sessions or not block.is_evaluated:
+    if info.name not in sessions or not block.is_evaluated:
         return None
     for word in info.words:
         if BARE_WORD.fullmatch(word) and word not in FLAGS:
             raise Trouble(f"line {block.begin + 1}: {ascii(word)} is none of the words that a fence can have: {', '.join(FLAGS)}")
-    return info.name, info.flags(FLAGS)
+    by_options = [HIDE] * is_hidden(block.options) + [TEXTLESS] * is_without_text(block.options)
+    return info.name, info.flags(FLAGS) | frozenset(by_options)
 
 
-def why_unevaluated(block: Block, sessions: Sessions) -> Optional[str]:
+def why_unevaluated(block: Block) -> Optional[str]:
     """Why a fence that is no session's isn't evaluated, where its form says that it is meant to be: a chunk (`{r}`), or one with a flag."""
     info = block.info
     if not block.is_evaluated or not (info.is_chunk or info.flags(FLAGS)):
         return None
     name = ascii(info.name[:LONGEST_NAME])[1:-1]
-    if info.name in sessions:
-        return f"the chunk {{{name}}} isn't evaluated: a fence of the session begins with {name} or {{.{name}}}"
     return f"no session is called {name}, so this fence isn't evaluated" if name else "no session is named here, so this fence isn't evaluated"
 
 
@@ -81,6 +83,7 @@ class Document:
         self.strays: List[int] = []  # lines, from 1, at which an answer begins that belongs to no fence
         self.others: Counter[str] = collections.Counter()  # fences of no session, by what stands at them
         self.unevaluated: List[Tuple[int, str]] = []  # those of them that are meant to be evaluated: the line, from 1, and why they aren't
+        self.ignored: Dict[str, int] = {}  # options of fences of sessions that are, each with the line, from 1, of the first one
         self._read(contents[front.lines :], front.lines)
 
     def _read(self, body: List[str], first: int) -> None:
@@ -96,12 +99,13 @@ class Document:
             if named:
                 finder = Finder(tokens, at, token.map[1], body, first)
                 self.fences.append(self._fence(block, named, finder, first))
+                self.ignored = {**{name: block.begin + 1 for name in block.ignored}, **self.ignored}
                 at = finder.at
             elif is_of_an_answer(block.info_text):
                 self.strays.append(block.begin + 1)
             else:
                 self.others[block.info_text] += 1
-                why = why_unevaluated(block, self.sessions)
+                why = why_unevaluated(block)
                 self.unevaluated += [(block.begin + 1, why)] if why else []
 
     def _fence(self, block: Block, named: Tuple[str, FrozenSet[str]], finder: Finder, first: int) -> Fence:
@@ -125,6 +129,15 @@ class Document:
             parts.append(cut(self.lines[fence.until - 1])[1])
             at = fence.until
         return "".join(parts + self.lines[at:])
+
+    def moved(self, shown: Sequence[Shown]) -> Dict[int, int]:
+        """How many lines further down each fence stands in the text with these answers, by its first line."""
+        found: Dict[int, int] = {}
+        further = 0
+        for fence, one in zip(self.fences, shown):
+            found[fence.begin] = further
+            further += len(lines_of(one, fence.prefix, fence.is_in_container)) - (fence.until - fence.end)
+        return found
 
     @property
     def bare(self) -> str:

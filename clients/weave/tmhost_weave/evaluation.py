@@ -9,6 +9,7 @@ from .plan import MARK, Plan, Wanted
 
 BELOW = "what stands below is of a replay, and is removed"
 UNTRIED = "not evaluated, since what stands before it in its session has no answer"
+ENDED = "no answer: Ended"
 PATIENCE = 30.0  # seconds after which it is said that a field has no answer yet
 
 

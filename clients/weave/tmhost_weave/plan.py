@@ -63,6 +63,11 @@ class Plan:
     def stale(self, session: str) -> List[Wanted]:
         return [wanted for wanted in self.of(session) if not wanted.is_kept]
 
+    def move(self, further: Mapping[int, int]) -> None:
+        """Takes the lines of a text in which each fence, by its first line, stands so many lines further down."""
+        for wanted in self.wanted:
+            wanted.line += further[wanted.fence.begin]
+
     @property
     def is_stale(self) -> bool:
         return not all(wanted.is_kept for wanted in self.wanted)

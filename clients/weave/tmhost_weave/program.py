@@ -6,6 +6,7 @@ import tempfile
 from typing import List
 
 from tmhost import TmhostError
+from tmhost.program import show_building
 
 from .files import locked
 from tmhost_fences.troubles import Trouble
@@ -17,7 +18,8 @@ The front matter of TEXT names the sessions, as `sessions: {py: [tmhost-python]}
 stand {whole}, {pure}, {hide} and {fold}; `fences: whole` in the front matter makes each fence one field. The answers are kept in the worksheet beside TEXT, whose name ends in .sheet.
 The program is the one that TMHOST names, tmhost on PATH, or the one that was built or installed with this. The status is 0 where all fields are answered, 1 where one
 isn't, where a fence such as {r} or r {hide} is that of no session, where --check says that something would change or
---test that an answer is another one, or where something went wrong, and 2 where the words are refused.
+--test that an answer is another one, or where something went wrong, and 2 where the words are refused. An answer may be an error
+that its interpreter reports: standard error says how many are, and in which lines their code stands.
 """
 INTERRUPTED = 130
 
@@ -44,6 +46,7 @@ def arguments(words: List[str]) -> argparse.Namespace:
 
 
 def run(given: argparse.Namespace) -> bool:
+    show_building()
     if given.test:
         with tempfile.TemporaryDirectory(prefix="tmhost-weave-") as folder:
             return Weave(given.text, None, folder).test(given.seconds)

@@ -7,12 +7,12 @@ import re
 import sys
 from typing import Dict, Iterator, List, Optional
 
-from tmhost import Field, Session
-from tmhost.starting import doubt
+from tmhost import Field, Session, readable
+from tmhost.starting import doubt, why_it_ends
 
 from .answers import ANSWER, ERROR, FORMULA, NO_ANSWER, PICTURE, Piece, Shown
-from .document import FOLD, HIDE, Document
-from .evaluation import Evaluator
+from .document import FOLD, HIDE, TEXTLESS, Document
+from .evaluation import ENDED, Evaluator
 from .files import new_name, put, read
 from .formulas import parts_of
 from .pictures import Pictures
@@ -22,6 +22,7 @@ from tmhost_fences.troubles import Trouble
 
 MOST_REPORTED = 5  # kinds of fences, in a message
 LONGEST_INFO = 40  # characters of what stands at one
+MOST_LINES = 20  # of errors, in a message
 CLEAR = "\r\x1b[K"  # takes a line of a terminal away
 LONG_RUN = re.compile("`{255,}")  # cmark counts the backquotes of a fence up to 255, so a line of more would close any
 
@@ -82,6 +83,8 @@ class Weave:
             self.say(f"line {line}: an answer that is after no fence of a session stays as text")
         for line, why in self.document.unevaluated:
             self.say(f"line {line}: {why}")
+        if self.document.ignored:
+            self.say("options that are ignored: " + ", ".join(f"{name} (line {line})" for name, line in sorted(self.document.ignored.items())))
         if not self.document.fences:
             self.say(why_nothing(self.document))
 
@@ -152,9 +155,10 @@ class Weave:
                 failed.add(fence.begin)
                 pieces[fence.begin].append(Piece(NO_ANSWER, wanted.failure))
             elif fence.begin not in failed and HIDE not in fence.flags and wanted.id is not None:
-                pieces[fence.begin] += pieces_of(self.fields[wanted.id], fence.is_in_container, self.pictures)
-        found = [(fence, tuple(pieces[fence.begin])) for fence in self.document.fences]
-        return [Shown(these, bool(these) and FOLD in fence.flags) for fence, these in found]
+                found = pieces_of(self.fields[wanted.id], fence.is_in_container, self.pictures)
+                pieces[fence.begin] += [piece for piece in found if not (TEXTLESS in fence.flags and piece.kind in (ANSWER, FORMULA))]
+        shown = [(fence, tuple(pieces[fence.begin])) for fence in self.document.fences]
+        return [Shown(these, bool(these) and FOLD in fence.flags) for fence, these in shown]
 
     def woven(self, plan: Plan) -> bytes:
         return bytes_of(self.document.checked(self.shown(plan)))
@@ -179,7 +183,10 @@ class Weave:
     def weave(self, seconds: Optional[float]) -> bool:
         """Whether all is answered that is meant to be evaluated."""
         plan = self.evaluated(seconds)
-        self.write(self.woven(plan))
+        shown = self.shown(plan)
+        self.write(bytes_of(self.document.checked(shown)))
+        if self.target == self.path:
+            plan.move(self.document.moved(shown))
         return self.is_answered(plan)
 
     def is_answered(self, plan: Plan) -> bool:
@@ -187,9 +194,30 @@ class Weave:
         failures = [wanted for wanted in plan.wanted if wanted.failure]
         for wanted in failures:
             self.say(f"line {wanted.line}: {wanted.fence.session}: {wanted.failure}")
+        self.tell_ends(plan)
+        self.tell_errors(plan)
         for line in self.early(plan):
             self.say(f"line {line}: its figure is shown before the lines after it draw: {{whole}} at the fence, or `fences: whole` in the front matter, makes them one field")
         return not failures and not self.document.unevaluated
+
+    def tell_ends(self, plan: Plan) -> None:
+        """Why the interpreters ended that lost a field, where they end so at their start."""
+        ended = {wanted.fence.session: plan.words[wanted.session] for wanted in plan.wanted if wanted.failure == ENDED}
+        for name, words in ended.items():
+            why = None if doubt(words) else why_it_ends(words)
+            if why:
+                self.say(readable(f"{name}: {why}"))
+
+    def tell_errors(self, plan: Plan) -> None:
+        """How many answers are errors, and in which lines their code stands, also where it is hidden."""
+        lines = [str(wanted.line) for wanted in plan.wanted if self.is_error(wanted)]
+        if lines:
+            where = ", ".join([*lines[:MOST_LINES], *([".."] if len(lines) > MOST_LINES else [])])
+            self.say(f"1 error: line {where}" if len(lines) == 1 else f"{len(lines)} errors: lines {where}")
+
+    def is_error(self, wanted: Wanted) -> bool:
+        field = None if wanted.failure or wanted.id is None else self.fields.get(wanted.id)
+        return bool(field and field.answer and field.answer.errors)
 
     def early(self, plan: Plan) -> Iterator[int]:
         """The first line of each fence of Python that leaves a figure open, where others come after it: it is shown with that line, as far as it is drawn."""
@@ -230,4 +258,5 @@ class Weave:
             print(f"{self.name}: nothing would be evaluated, and the text would change from line {first_other_line(old, woven)} on")
         for name in self.pictures.missing():
             print(f"{self.name}: the picture {name} isn't there")
+        self.tell_errors(plan)
         return woven == old and not self.pictures.missing() and not self.document.unevaluated
