@@ -6,7 +6,7 @@
 
 ghost use Rattle.driver.specs.Noted.{noting_rules};
 ghost use Rattle.driver.specs.Place.{agenda_rules, rules, source_rules};
-ghost use Rattle.agendas.specs.LinesRules.{lines_rules};
+ghost use Rattle.line_agenda.specs.LinesRules.{lines_rules};
 ghost use Rattle.script_agenda.specs.Run.{running_rules};
 ghost use Rattle.field_agenda.specs.FieldLines.{by_field_lines};
 ghost use Rattle.field_agenda.specs.FieldsRules.{fields_rules};

@@ -8,7 +8,7 @@ use Rattle.live.specs.declared.holding.Hold.TheVariants as hold
 use Rattle.live.specs.Arrivals.{respite}
 use Rattle.live.specs.Saying.{WaitGoesOn, is_held, seconds_from}
 use Rattle.driver.specs.Reports.{TurnCame}
-use Rattle.agendas.specs.Heeds.{closed_one, interrupt_note}
+use Rattle.line_agenda.specs.Heeds.{closed_one, interrupt_note}
 use Rattle.evaluation.specs.declared.plan.Stand.{Stand}
 use Rattle.field_agenda.specs.declared.by_fields.ByFields.{ByFields}
 use Rattle.field_agenda.specs.declared.stage.FieldDoing.{FieldDoing}

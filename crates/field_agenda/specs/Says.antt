@@ -20,8 +20,8 @@ use Rattle.driver.specs.Steps.{most_together}
 use Rattle.driver.specs.declared.report.Show.TheVariants as show
 use Rattle.driver.specs.declared.turn.Turn.{Turn}
 use Rattle.driver.specs.declared.turn.Turn.TheVariants as turn
-use Rattle.agendas.specs.Alone.{AsksLines}
-use Rattle.agendas.specs.Matters.{others}
+use Rattle.line_agenda.specs.Alone.{AsksLines}
+use Rattle.line_agenda.specs.Matters.{others}
 use Rattle.evaluation.specs.Beside.{IsFirstWaiting, IsLate, NoneJoins, NoneWaits, joins}
 use Rattle.evaluation.specs.Meant.{EndsHere, IsAsked, evaluation_counts}
 use Rattle.evaluation.specs.Programs.{Finds}

@@ -11,7 +11,6 @@ ghost use Rattle.field_agenda.specs.Says as says;
 ghost use Rattle.field_agenda.specs.Standing as standing;
 ghost use Rattle.field_agenda.specs.Together as together;
 
-use agendas::waits::is_held;
 use block_tree::Sequence;
 use child_edge::MOST_TOGETHER;
 use disk_model::Disk;
@@ -22,6 +21,7 @@ use evaluation::lasts::{Last, after_asking};
 use evaluation::plan::Stand;
 use evaluation::programs::is_needed;
 use host_events::{Command, Event};
+use line_agenda::waits::is_held;
 use live::Hold;
 use session_engine::BufferedHost;
 use std::alloc::{AllocError, Global};

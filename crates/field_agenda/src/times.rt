@@ -5,12 +5,12 @@ ghost use Rattle.session_engine.specs.Host.{IsHost};
 ghost use Rattle.field_agenda.specs.Says.{IsLateNow, NoneLate};
 ghost use Rattle.field_agenda.specs.Standing as standing;
 
-use agendas::waits::is_over;
 use arrivals::Woken;
 use child_calls::Seat;
 use disk_model::Disk;
 use evaluation::beside::{Late, first_late, further_late};
 use evaluation::plan::Stand;
+use line_agenda::waits::is_over;
 use live::{Hold, wait_for};
 use session_engine::Host;
 

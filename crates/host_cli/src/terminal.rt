@@ -16,24 +16,16 @@ enum Use {
     Writes,
 }
 
-/// What the task does with which paths: the first one, and of `rescue` and `restore` the new one.
+/// What the task does with which paths: the first one, and of `rescue` and `restore` the new one. `check` has a list of its own.
 fn paths_of<'a>(task: &Task<'a>) -> [Option<(&'a str, Use)>; 2] {
     match task {
-        Task::Blocks | Task::BlocksJson => [None, None],
+        Task::Blocks | Task::BlocksJson | Task::Check(_, _) => [None, None],
         Task::Create(path) => [Some((*path, Use::Makes)), None],
         Task::Run(path, _)
         | Task::Live(path)
         | Task::LiveJson(path)
         | Task::LivePartial(path)
         | Task::Eval(path, _) => [Some((*path, Use::Writes)), None],
-        Task::Check(path, asked) => {
-            let use_of = if asked.accept {
-                Use::Writes
-            } else {
-                Use::Reads
-            };
-            [Some((*path, use_of)), None]
-        }
         Task::Show(path)
         | Task::ShowJson(path)
         | Task::ShowAt(path, _)
@@ -135,6 +127,13 @@ fn explain_file(rt: &HostRuntime, path: &str, writes: bool) {
     }
 }
 
+/// Says why any of these worksheets can't be had.
+fn explain_all(rt: &HostRuntime, paths: &[&str], writes: bool) {
+    for path in paths {
+        explain_file(rt, path, writes);
+    }
+}
+
 /// Says on a terminal why the files of a program with this status can't be had, where the system has a reason. It
 /// asks the system once more, so it says nothing where the reason is gone.
 pub fn explain(rt: &HostRuntime, status: u8) {
@@ -147,6 +146,9 @@ pub fn explain(rt: &HostRuntime, status: u8) {
     let Ok(task) = read_words(rt.alloc(), words.as_slice()) else {
         return;
     };
+    if let Task::Check(_, asked) = &task {
+        explain_all(rt, asked.paths.as_slice(), asked.accept);
+    }
     for named in paths_of(&task) {
         match named {
             Some((path, Use::Makes)) => explain_new(rt, path),

@@ -15,15 +15,15 @@ use Rattle.driver.specs.Noted.{PrintedSoFar, noting_rules, printed_so_far}
 use Rattle.driver.specs.Over.{Over, ProgramParts, program_parts}
 use Rattle.driver.proofs.Seen.{over_seen}
 use Rattle.driver.proofs.TrueFaults.{over_true}
-use Rattle.agendas.specs.declared.by_lines.ByLines.{ByLines}
-use Rattle.agendas.specs.declared.doing.Transaction.{Transaction}
-use Rattle.agendas.specs.declared.doing.Doing.{Doing}
-use Rattle.agendas.specs.declared.doing.Doing.TheVariants as doing
-use Rattle.agendas.specs.Heeds.{LinesHeed}
-use Rattle.agendas.specs.LinesAt.{LinesAt, first_lines, lines_stand}
-use Rattle.agendas.specs.LinesRules.{LinesJoin, lines_rules}
-use Rattle.agendas.specs.Says.{LinesSay, LinesWoken}
-use Rattle.agendas.proofs.OwnFaults.{own_faults}
+use Rattle.line_agenda.specs.declared.by_lines.ByLines.{ByLines}
+use Rattle.line_agenda.specs.declared.doing.Transaction.{Transaction}
+use Rattle.line_agenda.specs.declared.doing.Doing.{Doing}
+use Rattle.line_agenda.specs.declared.doing.Doing.TheVariants as doing
+use Rattle.line_agenda.specs.Heeds.{LinesHeed}
+use Rattle.line_agenda.specs.LinesAt.{LinesAt, first_lines, lines_stand}
+use Rattle.line_agenda.specs.LinesRules.{LinesJoin, lines_rules}
+use Rattle.line_agenda.specs.Says.{LinesSay, LinesWoken}
+use Rattle.line_agenda.proofs.OwnFaults.{own_faults}
 use Rattle.offline_programs.specs.declared.fault.RunFault.{RunFault}
 use Rattle.sheet_files.specs.Closing.{Closable}
 use Rattle.tellings.specs.Voice.{Voice}

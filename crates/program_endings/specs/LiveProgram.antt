@@ -7,8 +7,8 @@ use Rattle.driver.specs.Place.{Rules, SourceRules, rules}
 use Rattle.driver.specs.Noted.{PrintedSoFar, noting_rules, printed_so_far}
 use Rattle.driver.specs.Over.{Over, program_parts}
 use Rattle.driver.specs.TrueFaults.{IsTrueOf}
-use Rattle.agendas.specs.LinesAt.{LinesAt, first_lines, stopped_at}
-use Rattle.agendas.specs.LinesRules.{lines_rules}
+use Rattle.line_agenda.specs.LinesAt.{LinesAt, first_lines, stopped_at}
+use Rattle.line_agenda.specs.LinesRules.{lines_rules}
 use Rattle.offline_programs.specs.declared.fault.RunFault.{RunFault}
 use Rattle.offline_programs.specs.declared.fault.RunFault.TheVariants as fault
 use Rattle.sheet_files.specs.declared.files_fault.FilesFault.{FilesFault}

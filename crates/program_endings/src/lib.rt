@@ -1,5 +1,5 @@
 //! How each program ends over a disk and interpreters: its exit status, and what it says on which stream.
-//! What the programs do stands in `offline_programs`, `driver` with `script_agenda`, `agendas` and `field_agenda`,
+//! What the programs do stands in `offline_programs`, `driver` with `script_agenda`, `line_agenda` and `field_agenda`,
 //! `sheet_check` and `sheet_export`, and which of them runs for which words in `host_cli`.
 #![tactic(auto)]
 

@@ -1,6 +1,6 @@
 //! The programs `live`, `run --json` and `run --timeout` over a worksheet's files, from its files on.
 ghost use Rattle.std.specs.Prelude.{◌≡◌, ◌&&◌, Err, IfErr, IfOk, Ok, ℕ, true};
-ghost use Rattle.agendas.specs.LinesAt.{LinesAt, stopped_at};
+ghost use Rattle.line_agenda.specs.LinesAt.{LinesAt, stopped_at};
 ghost use Rattle.arrivals.specs.Held.{nothing_held};
 ghost use Rattle.driver.specs.Place.{source_rules};
 ghost use Rattle.offline_programs.specs.Saying.{saying};
@@ -15,9 +15,9 @@ use crate::passing::{Answered, Given, GivenBack};
 use crate::strict_program::end_strict;
 use crate::telling::no_files;
 use crate::{Ending, end_program};
-use agendas::ByLines;
 use arrivals::{InputLines, Sources};
 use driver::{OverStream, Stamped, Voiced, run_voiced};
+use line_agenda::ByLines;
 use live::Manner;
 use offline_programs::{RunFault, Says};
 use script_agenda::Outside;

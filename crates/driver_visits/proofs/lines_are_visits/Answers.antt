@@ -1,6 +1,6 @@
 use Rattle.driver.specs.Noted.{noting_rules}
 use Rattle.driver.specs.Place.{rules, source_rules}
-use Rattle.agendas.specs.LinesRules.{lines_rules}
+use Rattle.line_agenda.specs.LinesRules.{lines_rules}
 use Rattle.driver_visits.proofs.Visiting.{durable_at, ends_as_visit}
 use Rattle.driver_visits.proofs.lines_are_visits.Goals as goal
 

@@ -1,11 +1,11 @@
 //! Lines of `live` that were there together: what a crash leaves at each moment, and a disk that fails.
 use super::grouped::{FIELDS, created, fields_of, leaves, lines_of, script};
-use agendas::ByLines;
 use arrivals::{InputLines, ScriptedSources};
 use child_calls::Scripted;
 use disk_model::{Area, Disk, FuseDisk, FuseMode, MemoryDisk};
 use driver::{Over, Voiced, run_over};
 use host_events::HostFault;
+use line_agenda::ByLines;
 use live::Manner;
 use offline_programs::RunFault;
 use std::alloc::Global;

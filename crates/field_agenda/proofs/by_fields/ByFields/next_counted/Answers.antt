@@ -1,6 +1,6 @@
 use Rattle.std.proofs.Common.{◌∙◌, ap, subst, sym}
 use Rattle.std.specs.Prelude.{Ok}
-use Rattle.agendas.specs.Matters.{others}
+use Rattle.line_agenda.specs.Matters.{others}
 use Rattle.driver.specs.declared.turn.Turn.TheVariants as turn
 use Rattle.field_agenda.specs.declared.stage.FieldDoing.TheVariants as doing
 use Rattle.field_agenda.specs.Says.{GoesUnheard, goes_unheard, hears}

@@ -1,5 +1,0 @@
-use Rattle.std.proofs.Common.{refl}
-use Rattle.agendas.proofs.by_lines.ByLines.group.Goals as goal
-
-pub returns-clause-turn : goal.returns-clause-turn
-returns-clause-turn g c = (c.args.events, refl, refl)
