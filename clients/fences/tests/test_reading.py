@@ -9,7 +9,7 @@ from typing import List, Tuple
 from tmhost_fences.blocks import blocks_of
 from tmhost_fences.fields import LINE_END, groups, language_in
 from tmhost_fences.front import front_of, matter_end
-from tmhost_fences.info import info_of, is_evaluated, is_hidden, is_without_text
+from tmhost_fences.info import info_of, is_evaluated, is_hidden, is_without_text, wants_errors
 from tmhost_fences.troubles import Trouble
 
 
@@ -59,6 +59,12 @@ class Infos(unittest.TestCase):
         for text, code, hidden, textless, others in asked:
             block = blocks_of([f"~~~ {text}", *code, "~~~"])[0]
             self.assertEqual((is_hidden(block.options), is_without_text(block.options), block.ignored), (hidden, textless, others), (text, code))
+
+    def test_which_errors_are_wanted(self) -> None:
+        asked = [("{r, error=TRUE}", [], True), ("{r}", ["#| error: true"], True), ("{r, error=F}", [], False), ("py {error=no}", [], False), ("{r, error=x}", [], None), ("{r}", [], None)]
+        for text, code, wanted in asked:
+            block = blocks_of([f"~~~ {text}", *code, "~~~"])[0]
+            self.assertEqual((wants_errors(block.options), block.ignored), (wanted, ["error"] * (wanted is None and "error" in text)), (text, code))
 
 
 class Fields(unittest.TestCase):

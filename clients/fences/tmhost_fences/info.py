@@ -1,7 +1,7 @@
 """What the info string of a fence says: its name, the words after it, and whether its code is to be evaluated."""
 import dataclasses
 import re
-from typing import Dict, FrozenSet, List, Sequence, Tuple
+from typing import Dict, FrozenSet, List, Optional, Sequence, Tuple
 
 ATTRIBUTES = re.compile(r"\{([^{}]*)\}")
 CHUNK = re.compile(r"\{\s*([^\s,{}.#=]+)(?=[\s,}])")  # `{r, echo=FALSE}` of knitr, Quarto and MyST
@@ -69,7 +69,13 @@ def is_without_text(options: Dict[str, str]) -> bool:
     return options.get("results", "").lower() in HIDDEN
 
 
+def wants_errors(options: Dict[str, str]) -> Optional[bool]:
+    """Whether an error is what the author wants to show, or mustn't be; None where the options don't say."""
+    said = options.get("error", "").lower()
+    return True if said in YES else False if said in NO else None
+
+
 def ignored(options: Dict[str, str]) -> List[str]:
     """The options that say something else than what is done. A label says nothing that could be."""
-    obeyed: Dict[str, Sequence[str]] = {"eval": NO + YES, "include": NO + YES, "output": NO + YES, "results": (*HIDDEN, "markup"), "echo": YES}
+    obeyed: Dict[str, Sequence[str]] = {"eval": NO + YES, "include": NO + YES, "output": NO + YES, "results": (*HIDDEN, "markup"), "echo": YES, "error": NO + YES}
     return [name for name, value in options.items() if name not in ("active", "label") and value.lower() not in obeyed.get(name, ())]

@@ -1,12 +1,13 @@
 """What is evaluated after which change, over the real program, by an interpreter that logs its lines."""
 import os
+import re
 import shutil
 import stat
 import subprocess
 import sys
 import threading
 import time
-from typing import List, Tuple
+from typing import List, Sequence, Tuple
 
 from .interpreter import value
 from .support import INTERPRETER, PROGRAM, Case, answers, command_words, environment, fences
@@ -162,6 +163,30 @@ class Weaving(Case):
         self.weave(self.front("a") + fences([("a", "\n".join(["error |one"] * 30))]))
         self.assertRegex(self.run_weave().errors, r"30 errors: lines (\d+, ){20}\.\.\n\Z")
 
+    def test_errors_that_fail(self) -> None:
+        """With --no-errors those that nobody wanted, and those of error=FALSE in any case. The text is woven all the same."""
+        def ends(words: Sequence[str], *infos: str) -> Tuple[int, str]:
+            self.write(self.front("a") + fences([(info, f"error |{at}") for at, info in enumerate(infos)]) + fences([("a", "x")]))
+            done = self.run_weave(*words, self.text)
+            woven = self.read()
+            self.assertEqual((woven.count("```tmhost-error\n"), len(answers(woven))), (len(infos), 1))
+            return done.status, re.sub(": lines? .*", "", done.errors.split("\n")[-2].split(": ", 1)[1])
+
+        for words, infos, wanted in (
+            ([], ["a"], (0, "1 error")),
+            (["--no-errors"], ["a"], (1, "1 error")),
+            (["--no-errors"], ["a {error=TRUE}", "{a, error=true}"], (0, "a: 0 fields kept, 3 stale, 0 replayed")),
+            (["--no-errors"], ["a {error=TRUE}", "a"], (1, "1 error")),
+            ([], ["{a, error=FALSE}"], (1, "1 error")),
+            ([], ["{a, error=f}", "{a, error=T}", "a"], (1, "2 errors")),
+            (["--no-errors"], [], (0, "a: 0 fields kept, 1 stale, 0 replayed")),
+        ):
+            with self.subTest(words=words, infos=infos):
+                self.assertEqual(ends(words, *infos), wanted)
+                for more in ("--check", "--test"):
+                    self.assertEqual(self.run_weave(*words, more, self.text).status, wanted[0])
+                os.remove(self.sheet)
+
     def test_lines_of_what_failed(self) -> None:
         self.write(self.front("a") + fences([("a", "x"), ("a", "die"), ("a", "y")]))
         done = self.run_weave()
@@ -296,13 +321,13 @@ class Weaving(Case):
         """What is hidden is evaluated all the same, and comes back where the option goes. Each option that is ignored is named once."""
         picture = 'picture |image/svg+xml|<svg xmlns="http://www.w3.org/2000/svg" width="9" height="9"/>'
         hidden = [("{a, include=FALSE}", "x"), ("{a}", "#| include: false\ny"), ("{a, results='hide'}", "z\nerror b\\n|no\n" + picture)]
-        text = self.front("a") + fences(hidden) + fences([("{a, echo=FALSE, fig.width=4}", "w"), ("{a plot, echo=FALSE, error=TRUE, echo=FALSE}", "v")])
+        text = self.front("a") + fences(hidden) + fences([("{a, echo=FALSE, fig.width=4}", "w"), ("{a plot, echo=FALSE, warning=TRUE, echo=FALSE}", "v")])
         self.write(text)
         done = self.run_weave()
         lines = ["x", "#| include: false", "y", "z", "error b\\n|no", picture, "w", "v"]
         self.assertEqual((done.status, self.logged("a")), (0, lines))
         first, second = (text[: text.index(info)].count("\n") + 1 for info in ("{a, echo", "{a plot"))
-        self.assertEqual(done.errors.split("\n")[0], f"{self.text}: options that are ignored: echo (line {first}), error (line {second}), fig.width (line {first})")
+        self.assertEqual(done.errors.split("\n")[0], f"{self.text}: options that are ignored: echo (line {first}), fig.width (line {first}), warning (line {second})")
         woven = self.read()
         self.assertEqual(answers(woven), [value(lines[:7]), value(lines)])
         self.assertEqual((woven.count("```tmhost-error\nno\n```"), woven.count("![](text.pictures/")), (1, 1))

@@ -7,7 +7,7 @@ from typing import Counter, Dict, FrozenSet, List, Optional, Sequence, Tuple
 from tmhost_fences.blocks import FENCE, LINE, Block, block_of, cut, tokens_of
 from tmhost_fences.fields import Group, groups, language_in, whole
 from tmhost_fences.front import Sessions, front_of
-from tmhost_fences.info import is_hidden, is_without_text
+from tmhost_fences.info import is_hidden, is_without_text, wants_errors
 from tmhost_fences.troubles import Trouble
 
 from .answers import Finder, Shown, is_of_an_answer, lines_of
@@ -17,6 +17,7 @@ TAB = 4  # columns
 HIDE, FOLD, PURE, WHOLE = "hide", "fold", "pure", "whole"
 FLAGS = (HIDE, FOLD, PURE, WHOLE)
 TEXTLESS = "textless"  # no text of an answer is shown, as by `results='hide'`
+ERRORS_WANTED, ERRORS_FAIL = "errors wanted", "errors fail"  # by `error=TRUE` and `error=FALSE`
 LONGEST_NAME = 40  # characters of what isn't a session's, in a message
 
 
@@ -59,7 +60,8 @@ def named_in(block: Block, sessions: Sessions) -> Optional[Tuple[str, FrozenSet[
     for word in info.words:
         if BARE_WORD.fullmatch(word) and word not in FLAGS:
             raise Trouble(f"line {block.begin + 1}: {ascii(word)} is none of the words that a fence can have: {', '.join(FLAGS)}")
-    by_options = [HIDE] * is_hidden(block.options) + [TEXTLESS] * is_without_text(block.options)
+    errors = {True: [ERRORS_WANTED], False: [ERRORS_FAIL], None: []}[wants_errors(block.options)]
+    by_options = [HIDE] * is_hidden(block.options) + [TEXTLESS] * is_without_text(block.options) + errors
     return info.name, info.flags(FLAGS) | frozenset(by_options)
 
 

@@ -19,7 +19,8 @@ stand {whole}, {pure}, {hide} and {fold}; `fences: whole` in the front matter ma
 The program is the one that TMHOST names, tmhost on PATH, or the one that was built or installed with this. The status is 0 where all fields are answered, 1 where one
 isn't, where a fence such as {r} or r {hide} is that of no session, where --check says that something would change or
 --test that an answer is another one, or where something went wrong, and 2 where the words are refused. An answer may be an error
-that its interpreter reports: standard error says how many are, and in which lines their code stands.
+that its interpreter reports: standard error says how many are, and in which lines their code stands. With --no-errors the status is 1 then,
+but for code with error=TRUE in braces; it is for code with error=FALSE without that word, too. The text is woven in any case.
 """
 INTERRUPTED = 130
 
@@ -39,6 +40,7 @@ def arguments(words: List[str]) -> argparse.Namespace:
     what.add_argument("--test", action="store_true", help="evaluate all again, write nothing, and show which answers of TEXT are others now, as for a CI")
     parser.add_argument("--output", metavar="FILE", help="where the woven text goes, in place of TEXT (-: standard output)")
     parser.add_argument("--seconds", type=seconds, metavar="N", help="how long a field may take (no limit)")
+    parser.add_argument("--no-errors", action="store_true", help="the status is 1 where an answer is an error that isn't wanted (error=TRUE)")
     given = parser.parse_args(words)
     if given.test and given.output is not None:
         parser.error("--test writes nothing, so there is no --output for it")
@@ -49,9 +51,9 @@ def run(given: argparse.Namespace) -> bool:
     show_building()
     if given.test:
         with tempfile.TemporaryDirectory(prefix="tmhost-weave-") as folder:
-            return Weave(given.text, None, folder).test(given.seconds)
+            return Weave(given.text, None, folder, given.no_errors).test(given.seconds)
     with locked(os.path.realpath(given.text)):
-        weave = Weave(given.text, given.output)
+        weave = Weave(given.text, given.output, None, given.no_errors)
         return weave.check() if given.check else weave.weave(given.seconds)
 
 

@@ -11,7 +11,7 @@ from tmhost import Field, Session, readable
 from tmhost.starting import doubt, why_it_ends
 
 from .answers import ANSWER, ERROR, FORMULA, NO_ANSWER, PICTURE, Piece, Shown
-from .document import FOLD, HIDE, TEXTLESS, Document
+from .document import ERRORS_FAIL, ERRORS_WANTED, FOLD, HIDE, TEXTLESS, Document
 from .evaluation import ENDED, Evaluator
 from .files import new_name, put, read
 from .formulas import parts_of
@@ -65,10 +65,12 @@ def why_nothing(document: Document) -> str:
 
 
 class Weave:
-    """`output` is where the woven text goes: None for the text itself, "-" for standard output. `folder` is where the worksheet lies, if not beside the text."""
+    """`output` is where the woven text goes: None for the text itself, "-" for standard output. `folder` is where the worksheet lies, if not beside the text.
+    `errors_fail` is whether an error is a failure where the options of its fence don't say."""
 
-    def __init__(self, name: str, output: Optional[str], folder: Optional[str] = None) -> None:
+    def __init__(self, name: str, output: Optional[str], folder: Optional[str] = None, errors_fail: bool = False) -> None:
         self.name, self.path = name, os.path.realpath(name)
+        self.errors_fail = errors_fail
         self.target = None if output == "-" else self.path if output is None else os.path.realpath(output)
         self.sheet_path = sheet_path(os.path.join(folder, os.path.basename(self.path)) if folder else self.path)
         self.keeps = folder is None  # what was evaluated
@@ -181,7 +183,7 @@ class Weave:
     # ---- what is asked for
 
     def weave(self, seconds: Optional[float]) -> bool:
-        """Whether all is answered that is meant to be evaluated."""
+        """Whether all is answered that is meant to be evaluated, and no error is a failure."""
         plan = self.evaluated(seconds)
         shown = self.shown(plan)
         self.write(bytes_of(self.document.checked(shown)))
@@ -198,7 +200,7 @@ class Weave:
         self.tell_errors(plan)
         for line in self.early(plan):
             self.say(f"line {line}: its figure is shown before the lines after it draw: {{whole}} at the fence, or `fences: whole` in the front matter, makes them one field")
-        return not failures and not self.document.unevaluated
+        return not failures and not self.document.unevaluated and not self.fails(plan)
 
     def tell_ends(self, plan: Plan) -> None:
         """Why the interpreters ended that lost a field, where they end so at their start."""
@@ -209,11 +211,18 @@ class Weave:
                 self.say(readable(f"{name}: {why}"))
 
     def tell_errors(self, plan: Plan) -> None:
-        """How many answers are errors, and in which lines their code stands, also where it is hidden."""
-        lines = [str(wanted.line) for wanted in plan.wanted if self.is_error(wanted)]
+        """How many answers are errors that nobody wanted, and in which lines their code stands, also where it is hidden."""
+        lines = [str(wanted.line) for wanted in self.errors(plan)]
         if lines:
             where = ", ".join([*lines[:MOST_LINES], *([".."] if len(lines) > MOST_LINES else [])])
             self.say(f"1 error: line {where}" if len(lines) == 1 else f"{len(lines)} errors: lines {where}")
+
+    def errors(self, plan: Plan) -> List[Wanted]:
+        return [wanted for wanted in plan.wanted if self.is_error(wanted) and ERRORS_WANTED not in wanted.fence.flags]
+
+    def fails(self, plan: Plan) -> bool:
+        """Whether any of them is a failure."""
+        return any(self.errors_fail or ERRORS_FAIL in wanted.fence.flags for wanted in self.errors(plan))
 
     def is_error(self, wanted: Wanted) -> bool:
         field = None if wanted.failure or wanted.id is None else self.fields.get(wanted.id)
@@ -259,4 +268,4 @@ class Weave:
         for name in self.pictures.missing():
             print(f"{self.name}: the picture {name} isn't there")
         self.tell_errors(plan)
-        return woven == old and not self.pictures.missing() and not self.document.unevaluated
+        return woven == old and not self.pictures.missing() and not self.document.unevaluated and not self.fails(plan)
