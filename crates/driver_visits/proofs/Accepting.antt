@@ -1,15 +1,16 @@
 -- What `check --accept` leaves is an acceptance of the theorem.
-use Rattle.std.proofs.Common.{◌≡◌, ◌∙◌, inl, inr, ℕ, List, [], ◌∷◌, ◌++◌, Option, refl, sym, ap, subst, append-nil, append_assoc, IsTrue}
+use Rattle.std.proofs.Common.{◌≡◌, ◌∙◌, inl, inr, ℕ, List, [], ◌∷◌, ◌++◌, Option, refl, sym, ap, subst, append-nil, append_assoc, IsTrue, Some, None}
 use Rattle.std.specs.Prelude.{Result, Ok, Err}
 use Rattle.std.specs.Io.KnownBytes.{Appends}
 use Rattle.std.proofs.KnownBytes.{Appends-nil}
 use Rattle.disk_model.specs.Disk.{DiskView, Image, bytes_on}
 use Rattle.disk_model.specs.inside.Moments.{started, weakens}
 use Rattle.worksheet.specs.declared.op.Op.{Op}
+use Rattle.worksheet.specs.declared.field.Answer.{Answer}
 use Rattle.worksheet.specs.Contents.{Contents}
 use Rattle.worksheet.specs.Ops.{sheet_of}
 use Rattle.recovery.specs.Sheets.{IsEither, IsSheetImage}
-use Rattle.theorem.specs.Acts.{Files, HasFirst}
+use Rattle.theorem.specs.Acts.{AreAnswers, Files, HasFirst, PutsAnswer}
 use Rattle.offline_programs.specs.declared.fault.RunFault.{RunFault}
 use Rattle.offline_programs.specs.declared.fault.RunFault.TheVariants as fault
 use Rattle.check_report.specs.declared.chosen.Chosen.{Chosen}
@@ -17,7 +18,7 @@ use Rattle.check_report.specs.declared.report.Format.TheVariants as format
 use Rattle.check_report.specs.declared.verdict.Counts.{Counts}
 use Rattle.check_report.specs.Reports.{Case, report_front}
 use Rattle.sheet_check.specs.Accept as ends
-use Rattle.sheet_check.specs.Accept.{AcceptAnswer, AcceptLeft, FoundOn, SheetAccepts, accepted, filing, opened, to_accept, unopened}
+use Rattle.sheet_check.specs.Accept.{AcceptAnswer, AcceptLeft, FoundOn, SheetAccepts, accepted, accepted_answer, accepted_of, answer_ops, filing, opened, to_accept, unopened}
 use Rattle.sheet_check.specs.Check.{passage}
 use Rattle.sheet_check.specs.Evaluated.{Way}
 use Rattle.sheet_check.specs.Kept.{HoldsAll, HoldsBut, IsAmong}
@@ -25,6 +26,27 @@ use Rattle.sheet_check.specs.Named.{ByNames, all_named, answer_as, missing_named
 use Rattle.sheet_check.specs.declared.named.CheckFault.{CheckFault}
 use Rattle.sheet_check.specs.declared.named.CheckFault.TheVariants as checks
 use Rattle.driver_visits.specs.Acceptances.{LeftByAcceptance, ReportedAcceptance, only_read, put_in}
+
+-- ops that put answers, after each other
+answers_joined : (first others : List Op) → AreAnswers first → AreAnswers others → AreAnswers (first ++ others)
+answers_joined [] others a b = b
+answers_joined (o ∷ first) others a b = (a.0, answers_joined first others a.1 b)
+
+-- what is accepted of a field is an answer, where there is one
+of_answer : (id : ℕ) (answer : Option Answer) → AreAnswers (answer_ops id answer)
+of_answer id None = tt
+of_answer id (Some answer) = (tt, tt)
+
+of_case : (c : Case) → AreAnswers (accepted_of c)
+of_case c = of_answer c.field.id (accepted_answer c.came c.verdict)
+
+-- so is what is accepted of fields
+are_answers : (cases : List Case) → AreAnswers (accepted cases)
+are_answers [] = tt
+are_answers (c ∷ cases) = answers_joined (accepted_of c) (accepted cases) (of_case c) (are_answers cases)
+
+one_answer : (last : Case) (one : Op) → accepted_of last ≡ one ∷ [] → PutsAnswer one
+one_answer last one taken = (subst AreAnswers taken (of_case last)).0
 
 -- some of the first of these ops are on an image
 among_first : (ops put : List Op) (i : Image) → IsAmong ops put i → HasFirst ops put [] i
@@ -60,39 +82,48 @@ module _ (disk back : DiskView) (model : IsTrue disk.keeps_model) (sheet : Conte
         keeps_model = model;
         read = refl;
         found = found-on;
+        answers = tt;
         from = tt;
         now = now;
         same = found.same;
         moments = λ keeps. started (HasFirst ops [] []) now.history (λ i image. here i (found.durable model i image));
       })
+      (inl refl)
       (λ keeps i image. here i (found.durable model i image)))
 
-  all-left : (put : List Op) → HoldsAll ops put now back → LeftByAcceptance disk back put
-  all-left put holds =
+  all-left : (put : List Op) → AreAnswers put → HoldsAll ops put now back → LeftByAcceptance disk back put
+  all-left put answers holds =
       put_in ops put
       (record {
         keeps_model = model;
         read = refl;
         found = found-on;
+        answers = answers;
         from = holds.from;
         now = now;
         same = found.same;
         moments = λ keeps. weakens (IsAmong ops put) (HasFirst ops put []) now.history back.history (among_first ops put) (holds.moments keeps);
       })
+      (inl refl)
       (λ keeps i image. all_first ops put i (holds.holds keeps i image))
 
-  but-left : (put : List Op) (one : Op) → HoldsBut ops put one now back → LeftByAcceptance disk back put
-  but-left put one holds =
+  all-cases : (cases : List Case) → HoldsAll ops (accepted cases) now back → LeftByAcceptance disk back (accepted cases)
+  all-cases cases holds = all-left (accepted cases) (are_answers cases) holds
+
+  but-left : (put : List Op) (one : Op) → AreAnswers put → PutsAnswer one → HoldsBut ops put one now back → LeftByAcceptance disk back put
+  but-left put one answers is_one holds =
       put_in ops (put ++ one ∷ [])
       (record {
         keeps_model = model;
         read = refl;
         found = found-on;
+        answers = answers_joined put (one ∷ []) answers (is_one, tt);
         from = holds.from;
         now = now;
         same = found.same;
         moments = λ keeps. weakens (IsAmong ops (put ++ one ∷ [])) (HasFirst ops (put ++ one ∷ []) []) now.history back.history (among_first ops (put ++ one ∷ [])) (holds.moments keeps);
       })
+      (inr (one, refl))
       (λ keeps i image. but_first ops put one i (holds.holds keeps i image))
 
   module _ {C : Type 0} (o : Way C) (chosen : Chosen) (c d : C) (a b : Option (List ℕ)) where
@@ -106,14 +137,14 @@ module _ (disk back : DiskView) (model : IsTrue disk.keeps_model) (sheet : Conte
     }
 
     broke-off : (why : RunFault) → AcceptLeft (to_accept o chosen) sheet (passage c d a b) (filing ops now back) why → ReportedAcceptance a b disk back (Err (checks.Run why))
-    broke-off why (ends.halted cases led wrote holds) = wrote-front cases (checks.Run why) wrote (all-left (accepted cases) holds)
-    broke-off why (ends.unremembered cases is led wrote holds) = wrote-front cases (checks.Run why) wrote (all-left (accepted cases) holds)
-    broke-off why (ends.full cases last one is led taken wrote holds place) = wrote-front cases (checks.Run why) wrote (all-left (accepted cases) holds)
-    broke-off why (ends.broken cases last one is led taken wrote holds) = wrote-front cases (checks.Run why) wrote (but-left (accepted cases) one holds)
+    broke-off why (ends.halted cases led wrote holds) = wrote-front cases (checks.Run why) wrote (all-cases cases holds)
+    broke-off why (ends.unremembered cases is led wrote holds) = wrote-front cases (checks.Run why) wrote (all-cases cases holds)
+    broke-off why (ends.full cases last one is led taken wrote holds place) = wrote-front cases (checks.Run why) wrote (all-cases cases holds)
+    broke-off why (ends.broken cases last one is led taken wrote holds) = wrote-front cases (checks.Run why) wrote (but-left (accepted cases) one (are_answers cases) (one_answer last one taken) holds)
     broke-off why (ends.unwritten cases is led holds) = record {
       cases = cases;
       wrote = λ written. absurd (written (ap (λ (x : RunFault). Err (checks.Run x)) is));
-      left = all-left (accepted cases) holds;
+      left = all-cases cases holds;
     }
 
     pub came : (nothing : Type 0) → (nothing → Appends a b []) → (counted : Result Counts RunFault)
@@ -121,9 +152,9 @@ module _ (disk back : DiskView) (model : IsTrue disk.keeps_model) (sheet : Conte
     came nothing unwritten (Ok counts) (checked, holds) = record {
       cases = checked.cases;
       wrote = λ written. checked.wrote;
-      left = all-left (accepted checked.cases) holds;
+      left = all-cases checked.cases holds;
     }
-    came nothing unwritten (Err why) (inl (is, none, holds)) = wrote-front [] (checks.Run why) (unwritten none) (all-left [] holds)
+    came nothing unwritten (Err why) (inl (is, none, holds)) = wrote-front [] (checks.Run why) (unwritten none) (all-left [] tt holds)
     came nothing unwritten (Err why) (inr left) = broke-off why left
 
     pub named : (nothing : Type 0) → (nothing → Appends a b []) → (missing : Option ℕ) (answer : Result Counts CheckFault)

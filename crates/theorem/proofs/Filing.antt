@@ -15,7 +15,7 @@ use Rattle.recovery.specs.Sheets.{IsSheetImage}
 use Rattle.recovery.specs.Laws.{OneSheet}
 use Rattle.host_laws.specs.Turns.{Has, HostsInTurn}
 use Rattle.theorem.specs.Story.{CrashedSince}
-use Rattle.theorem.specs.Acts.{Act, CameIn, Did, Files, HasFirst, KeepFieldOn, PutAfter, StaysIn, Uses, WasPut, no_use, turns_of, filing, has_filed, nothing_done, by_hosts, by_filing}
+use Rattle.theorem.specs.Acts.{Act, AreAnswers, CameIn, Did, Files, HasFirst, KeepFieldOn, PutAfter, StaysIn, Uses, WasPut, no_use, turns_of, filing, has_filed, nothing_done, by_hosts, by_filing}
 use Rattle.host_laws.proofs.FieldLaws.{by_op}
 use Rattle.theorem.proofs.Reported.{at_crash}
 use Rattle.theorem.proofs.Visits.{invocations_left}
@@ -53,6 +53,11 @@ from_front : (os done rest : List Op) → AllowedFrom os (done ++ rest) → Allo
 from_front os [] rest from = tt
 from_front os (o ∷ done) rest from = (from.0, from_front (os ++ o ∷ []) done rest from.1)
 
+-- the first of ops that put answers
+answers_front : (done rest : List Op) → AreAnswers (done ++ rest) → AreAnswers done
+answers_front [] rest answers = tt
+answers_front (o ∷ done) rest answers = (answers.0, answers_front done rest answers.1)
+
 -- ops that are allowed after others are so after any that make the same worksheet, and lead to the same one
 same_after : (a b more : List Op) → Allowed a → sheet_of a ≡ sheet_of b → AllowedFrom b more → AllowedFrom a more × (sheet_of (a ++ more) ≡ sheet_of (b ++ more))
 same_after a b [] allowed same from = (tt, ap sheet_of (append-nil a) ∙ (same ∙ sym (ap sheet_of (append-nil b))))
@@ -88,6 +93,7 @@ module _ (before : Image) (sheet : Contents) (image : IsSheetImage sheet before)
           split = among.split;
           withheld = among.withheld;
           has = among.has;
+          answers = answers_front among.done among.rest (subst AreAnswers among.split f.answers);
           from = after.0;
           now = sym after.1;
         },
@@ -118,7 +124,7 @@ all_did hosts one room before sheet acts after image (filing {mid = mid} {put = 
     let left = was_filing before sheet image one mid disk back ops put files crashed in
     let rest = all_did hosts one room mid left.0 others after left.2 more in
     record { last = rest.last; did = by_filing left.1 left.2 rest.did; image = rest.image }
-all_did hosts one room before sheet acts after image (has_filed {mid = mid} {put = put} {reported = reported} {acts = others} disk back ops files holds crashed more) =
+all_did hosts one room before sheet acts after image (has_filed {mid = mid} {put = put} {reported = reported} {acts = others} disk back ops files few holds crashed more) =
     let left = all_filed before sheet image one mid disk back ops put files reported holds crashed in
     let rest = all_did hosts one room mid left.0 others after left.2 more in
     record { last = rest.last; did = by_filing left.1 left.2 rest.did; image = rest.image }

@@ -22,6 +22,20 @@ pub data Act : Type 0 where
   hosted : List HostTurn → Act
   filed : (put reported : List Op) → Act
 
+-- it puts an answer into a field
+abbrev pub PutsAnswer : Op → Type 0
+PutsAnswer (op.Answer id prompt output) = Unit {0}
+PutsAnswer _ = ⊥
+
+-- each of them does
+abbrev pub AreAnswers : List Op → Type 0
+AreAnswers [] = Unit {0}
+AreAnswers (o ∷ ops) = PutsAnswer o × AreAnswers ops
+
+-- all of these ops were reported, or all but the last
+abbrev pub AllButOne : List Op → List Op → Type 0
+AllButOne put reported = (put ≡ reported) ⊎ ((last : Op) × (put ≡ reported ++ last ∷ []))
+
 -- An image of the worksheet of these ops and of some of the first of more, with all of those that were reported.
 pub record HasFirst (ops more reported : List Op) (i : Image) : Type 0 where
   pub done : List Op
@@ -31,13 +45,14 @@ pub record HasFirst (ops more reported : List Op) (i : Image) : Type 0 where
   pub has : done ≡ reported ++ withheld
   pub image : IsSheetImage (sheet_of (ops ++ done)) i
 
--- A read of a disk, which keeps the model (A1), gives this image (A3), and it was opened to put answers after these ops, each of them allowed
--- after those before it; this is the disk then. At every moment each image was of the worksheet after some of the first of them. At the last one
+-- A read of a disk, which keeps the model (A1), gives this image (A3), and it was opened to put answers after these ops, and nothing else, each of
+-- them allowed after those before it; this is the disk then. At every moment each image was of the worksheet after some of the first of them. At the last one
 -- the disk may have failed.
 pub record Files (before : Image) (disk : DiskView) (ops more : List Op) (back : DiskView) : Type 0 where
   pub keeps_model : IsTrue disk.keeps_model
   pub read : bytes_on disk ≡ before
   pub found : IsSheetImage (sheet_of ops) before
+  pub answers : AreAnswers more
   pub from : AllowedFrom ops more
   pub now : DiskView
   pub same : SameDisk disk now
@@ -53,10 +68,10 @@ pub data Uses (room : ℕ) : Image → List Act → Image → Type 0 where
   filing : {before mid after : Image} {put : List Op} {acts : List Act} (disk back : DiskView) (ops : List Op) → (f : Files before disk ops put back)
       → CrashedSince f.now.history back.history mid → Uses room mid acts after → Uses room before (filed put [] ∷ acts) after
   has_filed : {before mid after : Image} {put reported : List Op} {acts : List Act} (disk back : DiskView) (ops : List Op) → (f : Files before disk ops put back)
-      → InModel f.now (Leaves (HasFirst ops put reported) back.history.now)
+      → AllButOne put reported → InModel f.now (Leaves (HasFirst ops put reported) back.history.now)
       → CrashedSince back.history back.history mid → Uses room mid acts after → Uses room before (filed put reported ∷ acts) after
 
--- Some of the first of these ops were put after a worksheet, all of them that were reported.
+-- Some of the first of these ops were put after a worksheet, all of them that were reported. Each of them put an answer into a field.
 pub record PutAfter (before : Contents) (put reported : List Op) (after : Contents) : Type 0 where
   pub ops : List Op
   pub is : before ≡ sheet_of ops
@@ -66,6 +81,7 @@ pub record PutAfter (before : Contents) (put reported : List Op) (after : Conten
   pub split : put ≡ taken ++ lost
   pub withheld : List Op
   pub has : taken ≡ reported ++ withheld
+  pub answers : AreAnswers taken
   pub from : AllowedFrom ops taken
   pub now : after ≡ sheet_of (ops ++ taken)
 
