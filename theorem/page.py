@@ -52,6 +52,23 @@ NOT_EXPANDED: set[Key] = {
     ("scheme_text.Reported", "reported_by_text"),
 }
 
+# Crates of programs. Of their definitions and types the page has those that are named here, and links to the others in their files.
+OF_PROGRAMS = ("driver", "driver_visits", "child_edge", "sheet_check", "check_report", "tellings", "offline_programs", "field_agenda", "evaluation")
+EXPANDED: set[Key] = {
+    ("driver_visits.Visits", "turn_of"),
+    ("driver_visits.Visits", "EndsAsVisit"),
+    ("driver_visits.Visits", "DrivenIsVisit"),
+    ("driver_visits.Visits", "DurableAt"),
+    ("driver_visits.Visits", "PrintedIsDurable"),
+    ("driver_visits.Acceptances", "LeftByAcceptance"),
+    ("driver_visits.Acceptances", "closing_after"),
+    ("driver_visits.Acceptances", "ReportedAcceptance"),
+    ("driver_visits.Acceptances", "AcceptancesAreFiled"),
+    ("driver.Place", "Tries"),
+    ("driver.Place", "TriesInVain"),
+    ("driver.Over", "RanOver"),
+}
+
 # Sentences above definitions that lean on what their file has before them, or say more than the definition: words as they are, and those that
 # the page has for them. A sentence without such words stands as it is.
 REWORDED: dict[Key, tuple[str, str]] = {
@@ -111,6 +128,7 @@ LAWS_BESIDE: dict[Key, tuple[Key, str]] = {
 # The headings under which definitions stand, each with the modules that it takes.
 SECTIONS: list[tuple[str, tuple[str, ...]]] = [
     ("The claims", ("theorem.", "host_laws.", "session_engine.Host.", "session_engine.Faults.", "session_engine.Crash.")),
+    ("What programs printed, and what an acceptance left (A6, A7)", ("driver_visits.", "driver.")),
     ("The disk, and what it stands for", ("disk_model.", "journal.", "recovery.")),
     ("A file, of which a disk is made", ("sheet_files.",)),
     ("What events do", ("session_engine.", "host_events.")),
@@ -119,6 +137,11 @@ SECTIONS: list[tuple[str, tuple[str, ...]]] = [
     ("The worked run", ("worked_run.",)),
     ("Appendix: what a block is", ("block_tree.", "meta_format.", "scheme_text.")),
 ]
+
+
+def is_left_out(key: Key) -> bool:
+    """Whether the page has a link to its file alone."""
+    return key in NOT_EXPANDED or (re.split("[.:]", key[0])[0] in OF_PROGRAMS and key not in EXPANDED)
 
 
 def anchor(key: Key) -> str:
@@ -139,7 +162,7 @@ class Page:
         waiting = collections.deque(self.roots)
         while waiting:
             key = waiting.popleft()
-            if key in self.printed or key in NOT_EXPANDED or key in self.sources.values:
+            if key in self.printed or is_left_out(key) or key in self.sources.values:
                 continue
             self.printed[key] = self.sources.definitions[key]
             if key in LAWS_BESIDE:

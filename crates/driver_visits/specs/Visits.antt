@@ -24,7 +24,8 @@ pub record EndsAsVisit {A C K : Type 0} (R : Rules A C K) (first last : ProgramP
   pub unreported : List Event
   pub visit : Visit (bytes_on first.disk) first.disk (turn_of it.steps unreported) last.disk
 
-abbrev pub DrivenIsVisit : {A C K : Type 0} → Rules A C K → Type 0
+-- Whatever is driven over a disk that keeps the model, by these rules, is a visit.
+abbrev pub DrivenIsVisit : {A C K : Type 0} → (R : Rules A C K) → Type 0
 DrivenIsVisit {A = A} {C = C} {K = K} R = (first last : ProgramParts A C K) (answer : Result (Unit {0}) RunFault) (it : RanOver R first last answer)
     → IsTrue first.disk.keeps_model → EndsAsVisit R first last answer it
 
@@ -41,6 +42,7 @@ pub record DurableAt {A C K : Type 0} (R : Rules A C K) (first last : ProgramPar
   pub tries : Tries R.sink there.sink there.disk (printed_text R.sink.voice there.world r) true sink
   pub since : LeavesOnly (HasReported (world_at_opening visit.ops first.disk.room visit.end) (events_of (trace it.steps) ++ unreported) (outcomes_of (trace before))) there.disk.history last.disk.history
 
-abbrev pub PrintedIsDurable : {A C K : Type 0} → Rules A C K → Type 0
+-- What was printed at a step of such a run was durable before: that step is one of it, after these and before those.
+abbrev pub PrintedIsDurable : {A C K : Type 0} → (R : Rules A C K) → Type 0
 PrintedIsDurable {A = A} {C = C} {K = K} R = (first last : ProgramParts A C K) (answer : Result (Unit {0}) RunFault) (it : RanOver R first last answer) (before after : List RunStep) (r : Report)
     → IsTrue first.disk.keeps_model → it.steps ≡ before ++ printed r ∷ after → DurableAt R first last answer it before r
