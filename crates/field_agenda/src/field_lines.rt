@@ -1,4 +1,4 @@
-//! Fields as lines: that of the Nth field that is asked has the number 2N - 1, and its wait the next one.
+//! Fields as lines: the Nth field that is asked or passed over is the line 2N - 1, and its wait the next one.
 
 ghost use Rattle.std.specs.Prelude.{◌≡◌, ◌+◌, ◌<◌, ◌^◌, IfErr, OnOk, length};
 ghost use Rattle.std.specs.Io.KnownBytes.{Appends};

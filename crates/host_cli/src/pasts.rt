@@ -131,7 +131,7 @@ fn export_after<Y: System>(
     }
 }
 
-/// The same with this number.
+/// `export` in a named format of the worksheet at a path after its first so many changes, of which this is the number as it is written.
 pub(crate) fn export_as_past<Y: System>(
     alloc: Global,
     outside: &mut Outside<Y>,

@@ -132,7 +132,7 @@ fn allow_check_jobs(jobs: u32, accept: bool) -> Result<u32, JobsFault>
     }
 }
 
-/// The same of fields of a check.
+/// How many sessions of a check may go side by side.
 pub(crate) fn read_check_jobs(
     text: Option<&str>,
     accept: bool,

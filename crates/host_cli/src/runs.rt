@@ -97,7 +97,7 @@ pub(crate) fn live_json_at<Y: System>(
     live_reported(setting, outside, path)
 }
 
-/// The same, and what interpreters write before it is an answer is written beside it.
+/// `live` in lines of JSON, with what interpreters write before it is an answer.
 pub(crate) fn live_partial_at<Y: System>(
     alloc: Global,
     mut outside: Outside<Y>,

@@ -93,7 +93,7 @@ fn command_turn(alloc: Global, number: u64, command: Command) -> Result<Turn, Al
     }
 }
 
-/// The same with what is done then.
+/// What a command asks for, and what is done after it.
 fn choose_command(alloc: Global, at: Reading, command: Command) -> Result<Chosen, AllocError>
     ensures { (w : World) → IfOk result (AsksAlone at.manner at.number w at.now (Some (LiveLine.Script (ScriptLine.Command command)))) }
 {

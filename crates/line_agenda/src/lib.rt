@@ -1,4 +1,4 @@
-//! Agendas: who says what a driver does next. That of lines, as they come or one by one.
+//! The agenda of lines, as they come or one by one: what a driver does next for them.
 #![tactic(auto)]
 
 mod alone;

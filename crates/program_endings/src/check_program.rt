@@ -80,7 +80,7 @@ pub(crate) fn end_in_words<E: Says>(answer: Result<bool, CheckFault>, errors: &m
     }
 }
 
-/// The same, where a fault is printed on the output, too.
+/// Ends the program by what it answered: a fault is a line, and an object on the output, too.
 fn end_in_json<W: Write, E: Says>(
     alloc: Global,
     answer: Result<bool, CheckFault>,

@@ -251,7 +251,7 @@ fn tell_last<A: Copy, W: Write, T: Tells>(
     }
 }
 
-/// The same ending, where what stands last went out or didn't.
+/// This ending, as one that was reported only where what stands last went out.
 pub(crate) fn with_last(ending: Ending, said: bool) -> Ending
     ensures { result ≡ record { status = ending.status; reported = ending.reported && said } }
 {

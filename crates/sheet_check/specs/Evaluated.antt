@@ -17,7 +17,7 @@ use Rattle.check_report.specs.declared.report.Format.{Format}
 use Rattle.check_report.specs.declared.request.Request.{Request}
 
 -- How fields are evaluated again: what may come of the calls on the children, of their clock and of a watch of them, and how many seconds
--- a field may take from when its line was sent, where there is a limit.
+-- a field may take from when it is asked, where there is a limit.
 pub record Way (C : Type 0) : Type 1 where
   pub after : Relation C
   pub clock : Clock C

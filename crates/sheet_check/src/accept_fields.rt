@@ -126,7 +126,7 @@ fn accept_fields<D: Disk, S: Disk, C: Sources, W: Write, P: Progress>(
     Ok(counts)
 }
 
-/// The same, and then the line of progress is taken away, and each life that goes on is stopped.
+/// Checks the fields and accepts answers, takes the line of progress away, and stops each life that goes on.
 fn accept_and_stop<D: Disk, S: Disk, C: Sources, W: Write, P: Progress>(
     suite: &Suite<'_>,
     driver: &mut CopyDriver<D, C>,
@@ -198,8 +198,8 @@ fn accepted_on_copy<S: Disk, C: Sources, W: Write, P: Progress>(
     }
 }
 
-/// The same of the worksheet of a store, by a copy that stays as it was. None where there is no memory
-/// for the copies.
+/// Checks the worksheet of a store on a copy of it, accepts answers in the store, and compares with a second copy, which stays as the
+/// worksheet was. None where there is no memory for the copies.
 fn accepted_on_copies<S: Disk, C: Sources, W: Write, P: Progress>(
     manner: &Manner<'_>,
     sources: C,

@@ -101,7 +101,7 @@ fn find(alloc: Global, chosen: &Chosen, field: &Field, came: &Option<Answer>) ->
     }
 }
 
-/// The same with the answer that the field shows on the copy now, which came where its line was asked.
+/// What a field came to by the answer that it shows on the copy now, where its line was asked. None where there is no memory for it.
 fn find_on_copy<D: Disk>(
     alloc: Global,
     chosen: &Chosen,

@@ -159,7 +159,7 @@ fn check_fields<D: Disk, C: Sources, W: Write, P: Progress>(
     Ok(counts)
 }
 
-/// The same, and then the line of progress is taken away, and each life that goes on is stopped.
+/// Checks the fields, takes the line of progress away, and stops each life that goes on.
 fn check_and_stop<D: Disk, C: Sources, W: Write, P: Progress>(
     manner: &Manner<'_>,
     sheet: &Sheet,

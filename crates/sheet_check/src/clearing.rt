@@ -29,7 +29,7 @@ fn clear_field<D: Disk>(store: &mut Store<D>, id: u32) -> bool
     }
 }
 
-/// The same of a field that is checked, and of no other.
+/// Clears the field with this number where it is checked, and leaves any other. Whether that was done.
 fn clear_chosen<D: Disk>(store: &mut Store<D>, is_chosen: bool, id: u32) -> bool
     ensures { result ≡ true → store.new.sheet.contents
         ≡ together.cleared_at is_chosen store.old.sheet.contents id }

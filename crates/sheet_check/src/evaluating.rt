@@ -47,7 +47,7 @@ fn comes(marks: &[Mark], id: u32) -> bool
     was_asked(marks) && is_in_time(marks, id)
 }
 
-/// The same, and a fault where there was no memory for the line.
+/// Whether an answer came to the field with this number; a fault where there was no memory for its line.
 fn remembered(marks: &[Mark], id: u32) -> Result<bool, RunFault>
     ensures ok { IfOk result (λ came. (came ≡ comes_by marks.now id) × (marked.lacked_memory marks.now ≡ false)) }
     ensures err { IfErr result (λ why. (why ≡ RunFault.OutOfMemory) × (marked.lacked_memory marks.now ≡ true)) }

@@ -81,7 +81,7 @@ impl Marks {
         }
     }
 
-    /// The same of lines, one after another.
+    /// Keeps what the replies to lines say, one after another.
     fn keep_lines(&mut self, outcomes: &[Outcome]) -> Result<(), RunFault>
         ensures ok { OnOk result (self.new.kept ≡ self.old.kept ++ line_marks outcomes.now) }
         ensures err { IfErr result (λ why. why ≡ RunFault.OutOfMemory) }
@@ -113,7 +113,7 @@ impl Marks {
         }
     }
 
-    /// The same of what is shown.
+    /// Keeps what is shown, where it says that the time of a field was over.
     fn keep_shown(&mut self, show: Show) -> Result<(), RunFault>
         ensures ok { OnOk result (self.new.kept ≡ self.old.kept ++ shown_marks show) }
         ensures err { IfErr result (λ why. why ≡ RunFault.OutOfMemory) }

@@ -91,7 +91,7 @@ fn missing_of(sheet: &Sheet, ids: &[Ids]) -> Option<u32>
     }
 }
 
-/// The same of those that alone are compared.
+/// The first number that no field has, of those that alone are compared.
 fn missing_compared(chosen: &Chosen, sheet: &Sheet) -> Option<u32>
     ensures { result ≡ named.missing_compared sheet.now.contents.fields chosen.now.compared }
 {
@@ -146,7 +146,7 @@ pub(crate) fn check_named<C: Sources, W: Write, P: Progress>(
     }
 }
 
-/// The same, side by side where the fields that are checked are of several sessions.
+/// Checks a worksheet, where it has the fields that are named: side by side where the fields that are checked are of several sessions.
 pub(crate) fn check_named_together<C: Sources, W: Write, P: Progress>(
     beside: &Beside<'_>,
     sheet: &Sheet,
@@ -183,7 +183,7 @@ pub(crate) fn check_named_together<C: Sources, W: Write, P: Progress>(
     }
 }
 
-/// The same of the worksheet of a store, and accepts the answers that differ or are new.
+/// Checks the worksheet of a store, where it has the fields that are named, and accepts the answers that differ or are new.
 pub(crate) fn accept_named<S: Disk, C: Sources, W: Write, P: Progress>(
     manner: &Manner<'_>,
     sources: C,

@@ -72,7 +72,7 @@ fn tell_case<W: Write>(
     }
 }
 
-/// The same, in the place of the line of progress.
+/// Tells a case in the place of the line of progress.
 fn tell_in_its_place<W: Write, P: Progress>(
     manner: &Manner<'_>,
     case: &Case<'_>,
@@ -156,7 +156,7 @@ fn tell_shown<W: Write, P: Progress>(
     }
 }
 
-/// The same, with what the field shows on the copy now.
+/// Tells what a field came to by what it shows on the copy now.
 pub(crate) fn tell_what_came<D: Disk, W: Write, P: Progress>(
     manner: &Manner<'_>,
     host: &Host<D>,

@@ -61,7 +61,7 @@ fn evaluate_checked<D: Disk, C: Sources>(
     }
 }
 
-/// The same, and then compares them with the worksheet, and reports them.
+/// Evaluates the fields that are checked on a copy, compares them with the worksheet, and reports them.
 fn check_together_on<D: Disk, C: Sources, W: Write, P: Progress>(
     beside: &Beside<'_>,
     sheet: &Sheet,
@@ -92,7 +92,7 @@ fn check_together_on<D: Disk, C: Sources, W: Write, P: Progress>(
     }
 }
 
-/// The same, and then the line of progress is taken away, and each life that goes on is stopped.
+/// Evaluates, compares and reports them, takes the line of progress away, and stops each life that goes on.
 fn check_together_and_stop<D: Disk, C: Sources, W: Write, P: Progress>(
     beside: &Beside<'_>,
     sheet: &Sheet,
