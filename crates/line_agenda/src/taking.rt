@@ -189,7 +189,7 @@ impl<R: Read> ByLines<R> {
     }
 
     /// Whether each line is taken by itself: in a strict input, and in a transaction.
-    fn is_alone(&self) -> bool
+    fn takes_one_by_one(&self) -> bool
         ensures { result ≡ false → (self.now.manner.strict ≡ false) × (self.now.transaction ≡ None) }
     {
         match &self.transaction {
@@ -208,7 +208,7 @@ impl<R: Read> ByLines<R> {
         requires { self.old.number + most_together + 1 < 2 ^ 64 }
         ensures { (w : World) → IsHost host.now w → TakesInput (lines_stand R.remaining self.old) w now result (lines_stand R.remaining self.new) }
     {
-        if self.is_alone() {
+        if self.takes_one_by_one() {
             return self.take_next(alloc, host, now);
         }
         let events = gather(alloc, &mut self.lines);

@@ -22,7 +22,7 @@ use std::alloc::{AllocError, Global};
 use worksheet::{Field, Name};
 
 /// The fault of a check by that of a run on its copy.
-pub(crate) fn wait_fault(fault: RunFault) -> RunFault
+pub(crate) fn copy_fault(fault: RunFault) -> RunFault
     ensures { result ≡ fault_on_copy fault }
 {
     match fault {
@@ -123,7 +123,7 @@ fn evaluate_alone<D: Disk, C: Sources>(
     };
     match drive_plan(driver, checking_plan(ids, limit, 1)) {
         Ok(()) => remembered(driver.sink.kept.as_slice(), id),
-        Err(fault) => Err(wait_fault(fault)),
+        Err(fault) => Err(copy_fault(fault)),
     }
 }
 

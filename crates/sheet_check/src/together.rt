@@ -20,7 +20,7 @@ use crate::clearing::{checked_ids, open_cleared};
 use crate::closing::tell_counts;
 use crate::comparing::compare_fields;
 use crate::driving::{CopyDriver, Gave, checking_plan, drive_copy, drive_plan, into_sources};
-use crate::evaluating::wait_fault;
+use crate::evaluating::copy_fault;
 use crate::manner::Beside;
 use crate::named::{CheckFault, check_named_together};
 use crate::progress::{Progress, Sight};
@@ -57,7 +57,7 @@ fn evaluate_checked<D: Disk, C: Sources>(
     let plan = checking_plan(ids, manner.request.limit, beside.jobs);
     match drive_plan(driver, plan) {
         Ok(()) => Ok(()),
-        Err(fault) => Err(wait_fault(fault)),
+        Err(fault) => Err(copy_fault(fault)),
     }
 }
 

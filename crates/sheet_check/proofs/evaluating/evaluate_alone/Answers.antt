@@ -35,7 +35,7 @@ pub returns-in-Err-clause-err : goal.returns-in-Err-clause-err
 returns-in-Err-clause-err g c = λ w h.
     let is = c.checking_plan.ensures ∙ ap (λ ids. checking_plan ids c.args.limit 1) c.in-Ok.ensures in
     broke_alone (way g.C.Children.after g.C.Sources.clock g.C.Sources.wakes c.args.limit) c.args.id (at w c.args.driver.now.sources c.args.driver.now.host.store.disk) c.drive_plan.new.driver.host c.drive_plan.new.driver.sources
-    c.checking_plan.result is c.in-Err.fault c.wait_fault.result c.wait_fault.ensures (c.in-Err.ensures.err w c.args.limit h)
+    c.checking_plan.result is c.in-Err.fault c.copy_fault.result c.copy_fault.ensures (c.in-Err.ensures.err w c.args.limit h)
 
 pub returns-in_default-clause-err : goal.returns-in_default-clause-err
 returns-in_default-clause-err g c = λ w h. halted fault.OutOfMemory refl tt (unplanned refl refl h)
