@@ -1,5 +1,6 @@
-# Checks that accept what differs: what `check --accept` writes, and the worksheet that it leaves. The interpreter and `made` are those of
-# check.sh.
+# Checks that accept what differs: what `check --accept` writes, and the worksheet that it leaves. The interpreters and `made` are those of
+# checks.
+. ./checks_desk.sh
 
 # A case of `check --accept` over the worksheet as it stands: NAME STATUS TEXT SHEET WORDS. Then it is shown so.
 accepts() {
@@ -11,9 +12,9 @@ accepts() {
 
 # The same, and the files stay as they were.
 accepts_none() {
-    before="$(bytes sheet) $(bytes sheet.alt 2>/dev/null)"
+    before=$(sums sheet sheet.alt)
     accepts "$@"
-    compare "$1, kept" "$(bytes sheet) $(bytes sheet.alt 2>/dev/null)" "$before"
+    compare "$1, kept" "$(sums sheet sheet.alt)" "$before"
 }
 
 # How many changes stand in the worksheet.
@@ -63,11 +64,11 @@ accepts 'one of three that is compared' 0 '#2 a\na] differs\n- differs\n+ anothe
     '#1 a\na] differs\ndiffers\n#2 a\na] differs\nanother\n#3 a\na] differs\ndiffers\n' --compare 2
 made "$a"'session b plain sh suite.sh b\nnew 0 a differs\nnew 1 b differs\neval 1\neval 2\nwait\n'
 accepts 'one session again' 0 '#2 b\nb] differs\n- differs\n+ another\naccepted 2\nsame 0 accepted 1 unanswered 0\n' '#1 a\na] differs\ndiffers\n#2 b\nb] differs\nanother\n' --only b
-rm -f sent
+nothing_sent
 for format in tap junit; do
     accepts_none "as $format" 2 "error: --accept goes with no FORMAT but text\n\nFor more information, try 'tmhost check --help'.\n" '#1 a\na] differs\ndiffers\n#2 b\nb] differs\nanother\n' --format "$format"
 done
-compare 'words that accept nothing' "$(cat sent 2>/dev/null)" ''
+compare 'words that accept nothing' "$(text_of sent)" ''
 
 # New ones, by --all: fields that show no answer, or whose line was lost, show what came.
 made "$a"'new 0 a x\nnew 1 a longer\nnew 2 a differs\nnew 3 a prompts\nnew 4 a z\neval 1\neval 3\nwait\n'
@@ -96,11 +97,11 @@ accepts 'a new one that is compared' 0 '#2 b\n> y\n+ y\naccepted 2\nsame 0 accep
 accepts 'a new one of a session' 0 '#3 b\n> z\n+ z\naccepted 3\nsame 1 accepted 0 unanswered 0 new 1\n' '#1 a\n> x\n?\n#2 b\nb] y\ny\n#3 b\nb] z\nz\n' --all --only b
 made "$a"'new 0 a x\nnew 1 a kills\n'
 (exec "$tmhost" check --accept --all sheet >text 2>errors) 2>/dev/null
-compare 'new ones, killed' "$? $(cat text errors)" "$(printf '137 #1 a\n> x\n+ x\naccepted 1')"
+compare 'new ones, killed' "$? $(text_of text; text_of errors)" "$(printf '137 #1 a\n> x\n+ x\naccepted 1')"
 compare 'new ones, killed, shown' "$(answer show sheet)" "$(printf '#1 a\na] x\nx\n#2 a\n> kills\n?\nstatus 0')"
 made "$a"'new 0 a x\nnew 1 a y\n'
 "$tmhost" check --accept --all sheet >/dev/full 2>errors
-compare 'new ones on a full output' "$? $(cat errors)" '1 fault 42 Output'
+compare 'new ones on a full output' "$? $(text_of errors)" '1 fault 42 Output'
 compare 'new ones on a full output, shown' "$(answer show sheet)" "$(printf '#1 a\na] x\nx\n#2 a\n> y\n?\nstatus 0')"
 made 'session g plain sh grows.sh\nnew 0 g x\n'
 compare 'a new one on a full disk' "$(limited 1 check --accept --all sheet </dev/null)" "$(ending 'fault 21 Disk\n' 1)"
@@ -116,11 +117,11 @@ accepts 'a new one that was over' 1 '#1 l\n> late\n- ?\n+ ?\n#2 l\n> y\n+ y\nacc
 # What was told is on the disk, also where it is killed; where the output can't be written, one more.
 made "$a"'new 0 a differs\nnew 1 a kills\neval 1\neval 2\nwait\n'
 (exec "$tmhost" check --accept sheet >text 2>errors) 2>/dev/null
-compare 'one that is killed' "$? $(cat text errors)" "$(printf '137 #1 a\na] differs\n- differs\n+ another\naccepted 1')"
+compare 'one that is killed' "$? $(text_of text; text_of errors)" "$(printf '137 #1 a\na] differs\n- differs\n+ another\naccepted 1')"
 compare 'one that is killed, shown' "$(answer show sheet)" "$(printf '#1 a\na] differs\nanother\n#2 a\na] kills\nkills\nstatus 0')"
 made "$a"'new 0 a differs\nnew 1 a differs\neval 1\neval 2\nwait\n'
 "$tmhost" check --accept sheet >/dev/full 2>errors
-compare 'a full output' "$? $(cat errors)" '1 fault 42 Output'
+compare 'a full output' "$? $(text_of errors)" '1 fault 42 Output'
 compare 'a full output, shown' "$(answer show sheet)" "$(printf '#1 a\na] differs\nanother\n#2 a\na] differs\ndiffers\nstatus 0')"
 
 # An answer of 2,000,000 bytes: on a disk that takes no more it isn't there, and nothing of it is told.

@@ -26,8 +26,8 @@ for length in $(seq 0 75); do
     else
         fault='30 Damaged 49'
     fi
-    head -c "$length" example >given
-    shows "the first $length bytes of the example" 1 "fault $fault\n" <given
+    head -c "$length" example >area
+    shows "the first $length bytes of the example" 1 "fault $fault\n"
 done
 
 # `show` changes no byte, and makes no file.
@@ -144,7 +144,6 @@ second 'an older record behind the last gate' "$anew"'R\000\000\000\012\002\000\
 
 # A selector that a crash has torn, into each of its values: area Second is the active one at `B` alone, the byte 66, and area First at
 # any other, so that each of them opens to a worksheet.
-printf "$anew" >anew
 for value in $(seq 0 255); do
     case $value in
     66) sheet='#2 a\n> y\n?\n' ;;
@@ -152,10 +151,10 @@ for value in $(seq 0 255); do
     esac
     {
         printf 'TMWSHEET\001'
-        printf '%b' "$(printf '\\0%03o' "$value")"
+        printf "\\$((value / 64))$((value / 8 % 8))$((value % 8))"
         printf "$session$new$clear$answered"'\000'
     } >area
-    cp anew area.alt
+    printf "$anew" >area.alt
     compare "the selector $value" "$(answer show area)" "$(ending "$sheet" 0)"
 done
 

@@ -21,9 +21,9 @@ stream 'a tag that is open' '\002a' 1 'unfinished 0\n'
 
 # Levels.
 opened() {
-    repeated "$1" x | sed 's/x/\\002a:/g'
+    repeated "$1" '\002a:'
 }
-stream '32 levels' "$(opened 32)$(repeated 32 x | sed 's/x/\\005/g')" 0 "0 128 $(repeated 32 '{a:')$(repeated 32 '}')\n"
+stream '32 levels' "$(opened 32)$(repeated 32 '\005')" 0 "0 128 $(repeated 32 '{a:')$(repeated 32 '}')\n"
 stream '33 levels' "$(opened 33)" 1 'fault 2 TooDeep 96\n'
 
 # The longest block, one byte more, and the longest stream.
@@ -57,19 +57,19 @@ rm given
 # An output that takes nothing, with errors that do and with some that don't.
 printf '\002a:\005' >given
 "$tmhost" blocks <given >/dev/full 2>errors
-compare 'blocks over a full output' "$? $(cat errors)" '1 fault 42 Output'
+compare 'blocks over a full output' "$? $(text_of errors)" '1 fault 42 Output'
 "$tmhost" blocks <given >/dev/full 2>/dev/full
 compare 'blocks over a full output and full errors' "$?" 1
 "$tmhost" blocks </ >text 2>errors
-compare 'an input that is a folder' "$? $(wc -c <text) $(cat errors)" '1 0 fault 40 Input'
+compare 'an input that is a folder' "$? $(wc -c <text) $(text_of errors)" '1 0 fault 40 Input'
 
 # The same as lines of JSON: NAME INPUT STATUS, where the lines between the first and the last are the input here. Where the first fault is
 # one of the stream, it is the last object.
 hello='{"format":1,"program":"tmhost","protocol":2,"type":"hello","version":"0.1.0"}'
 objects() {
-    cat >wanted
+    want=$(echo "$hello"; cat; echo "status $3")
     printf "$2" >given
-    compare "$1 as JSON" "$(answer blocks --json <given)" "$(echo "$hello"; cat wanted; echo "status $3")"
+    compare "$1 as JSON" "$(answer blocks --json <given)" "$want"
 }
 objects 'noise' 'noise\n' 0 <<'END_OF_JSON'
 {"type":"end"}
@@ -112,7 +112,7 @@ compare 'one byte too many as JSON' "$(answer blocks --json <given)" "$(printf '
 compare 'a folder as JSON' "$(answer blocks --json </)" "$(printf '{"name":"Input","number":40,"type":"fault"}\nfault 40 Input\nstatus 1')"
 printf '\002a:\005' >given
 "$tmhost" blocks --json <given >/dev/full 2>errors
-compare 'objects over a full output' "$? $(cat errors)" '1 fault 42 Output'
-rm given wanted
+compare 'objects over a full output' "$? $(text_of errors)" '1 fault 42 Output'
+rm given
 
 counted blocks

@@ -1,5 +1,7 @@
 """Runs a program and lists what it asks of its files, in order: `calls.py LIST FAILS WORD ..`. LIST is the file of the list; FAILS is `-`, or a call as
-it is listed, the number of the one among them that fails, and its error: `fdatasync:1:EIO`. Listed are, of the program itself and not of those that it starts,
+it is listed, the number of the one among them that fails, and its error: `fdatasync:1:EIO`. By `calls.py LIST` one program after another is run: each line
+of the input is a FAILS and WORDs, of which none has a blank; the program reads the file `given` and writes the file `said`, and its status is then a line
+of the output. Listed are, of the program itself and not of those that it starts,
 
     lock KIND MODE FILE     a lock that is asked for: EX or SH, of a file that may be read (r), or read and written (rw)
     fsync FILE              and fdatasync FILE, write FILE
@@ -21,13 +23,12 @@ import array
 import ctypes
 import errno
 import fcntl
+import io
 import os
-import platform
 import select
 import socket
 import struct
 import sys
-from typing import NoReturn, TextIO
 
 CALLS = {
     "x86_64": {"seccomp": 317, "write": 1, "poll": 7, "pwrite64": 18, "kill": 62, "flock": 73, "fsync": 74, "fdatasync": 75},
@@ -49,7 +50,7 @@ class Program(ctypes.Structure):
     _fields_ = [("length", ctypes.c_ushort), ("steps", ctypes.c_void_p)]
 
 
-def start(numbers: list[int], seccomp: int, words: list[str], line: socket.socket) -> NoReturn:
+def start(numbers: list[int], seccomp: int, words: list[str], line: socket.socket) -> None:
     """Becomes the program, in a session of its own, once the place where its calls are asked about was handed out."""
     os.setsid()
     code = filter_of(numbers)
@@ -64,9 +65,14 @@ def start(numbers: list[int], seccomp: int, words: list[str], line: socket.socke
     os.execvp(words[0], words)
 
 
+names_of_paths: dict[str, str] = {}  # as they were found: to find one takes longer than a call
+
+
 def name_of(process: int, descriptor: int) -> str:
     path = os.readlink(f"/proc/{process}/fd/{descriptor}")
-    return os.path.relpath(path) if path.startswith("/") else path
+    if path not in names_of_paths:
+        names_of_paths[path] = os.path.relpath(path) if path.startswith("/") else path
+    return names_of_paths[path]
 
 
 def mode_of(process: int, descriptor: int) -> str:
@@ -98,13 +104,13 @@ class Failing:
             self.left, self.error = int(at), getattr(errno, error)
 
     def fails(self, line: str) -> bool:
-        if line.split()[0] != self.call:
+        if not self.call or line.split()[0] != self.call:
             return False
         self.left -= 1
         return self.left == 0
 
 
-def answer(asked: int, process: int, names: dict[int, str], failing: Failing, out: TextIO) -> None:
+def answer(asked: int, process: int, names: dict[int, str], failing: Failing, out: io.TextIOWrapper) -> None:
     """Lists one call, and lets it go on or fail."""
     question = bytearray(80)
     fcntl.ioctl(asked, RECEIVE, question)
@@ -116,17 +122,22 @@ def answer(asked: int, process: int, names: dict[int, str], failing: Failing, ou
     fcntl.ioctl(asked, SEND, struct.pack("=QqiI", number, 0, -failure, 0 if failure else 1))
 
 
-def main() -> NoReturn:
-    path, given, *words = sys.argv[1:]
-    calls = CALLS.get(platform.machine())
+def run(path: str, given: str, words: list[str], has_files: bool) -> int:
+    """Runs one program, over its files where it has some, and gives its status."""
+    calls = CALLS.get(os.uname().machine)
     if calls is None or (given == "polls" and "poll" not in calls):
-        sys.exit(77)
+        return 77
     names = {number: name for name, number in calls.items() if name != "seccomp" and (name != "poll" or given == "polls")}
     failing = Failing(given)
     here, there = socket.socketpair()
     process = os.fork()
     if process == 0:
         here.close()
+        if has_files:
+            os.dup2(os.open("given", os.O_RDONLY), 0)
+            said = os.open("said", os.O_WRONLY | os.O_CREAT | os.O_TRUNC, 0o666)
+            os.dup2(said, 1)
+            os.dup2(said, 2)
         start(list(names), calls["seccomp"], words, there)
     there.close()
     _, rights, _, _ = here.recvmsg(1, socket.CMSG_SPACE(4))
@@ -140,8 +151,19 @@ def main() -> NoReturn:
                     answer(asked, process, names, failing, out)
                 except FileNotFoundError:
                     continue
+        os.close(asked)
+    here.close()
     status = os.waitstatus_to_exitcode(os.waitpid(process, 0)[1])
-    sys.exit(status if status >= 0 else 128 - status)
+    return status if status >= 0 else 128 - status
+
+
+def main() -> None:
+    path, *words = sys.argv[1:]
+    if words:
+        sys.exit(run(path, words[0], words[1:], False))
+    for line in sys.stdin:
+        given, *words = line.split()
+        print(run(path, given, words, True), flush=True)
 
 
 main()

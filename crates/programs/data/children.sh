@@ -1,26 +1,5 @@
 # Interpreters, and what comes of them: answers by ask points, prompts, ends and faults of lives, lines that are lost.
 
-# An interpreter in the file NAME.sh: it writes the first text, and the next one for each line that it is sent. Each is one write. Which
-# words it was started with and what it was sent stands in the file `sent`, a line each, and its process in the file `lives`. After its
-# last text it does what `then` says.
-then='read -r line'
-interpreter() {
-    name=$1 first=$2
-    shift 2
-    {
-        printf '%s\n' "echo \"start \$*\" >>sent" 'echo $$ >>lives' "printf '$first'"
-        for text in "$@"; do
-            printf '%s\n' 'IFS= read -r line || exit' "printf 'send %s\\n' \"\$line\" >>sent" "printf '$text'"
-        done
-        printf '%s\n' "$then"
-    } >"$name.sh"
-    rm -f sent lives
-}
-
-banner='\002verbatim:\005'
-one='session a plain sh p.sh one\nnew 0 a x\neval 1\nwait\n'
-two='session a plain sh p.sh\nnew 0 a x\nnew 1 a y\neval 1\neval 2\nwait\n'
-
 # Beside the other cases: fifteen lines stay in the pipe of an interpreter, which has room for 4,096 bytes more. A request has more, and its rest waits for
 # room: until this interpreter reads, or for a second where it never does.
 cat >fills.py <<'END_OF_CHILD'
@@ -47,7 +26,7 @@ END_OF_CHILD
 fills() {
     "$tmhost" create "$1"
     {
-        printf 'session t tab python3 fills.py %s\nnew 0 t %s\n' "$1" "$(repeated 4095 x)"
+        printf 'session t tab python3 -I -S fills.py %s\nnew 0 t %s\n' "$1" "$(repeated 4095 x)"
         seq 15 | sed 's/.*/eval 1\nwait/'
         printf 'complete 1 1 %s\nwait 30\n' "$(repeated 4095 x)"
     } >"given.$1"
@@ -105,7 +84,7 @@ script 'an empty input' 'session a plain sh p.sh\nnew 0 a\neval 1\nwait\n' 'ok\n
 sent 'an empty input' 'start \nsend '
 
 # A thousand blocks in one piece: the first one answers, and the others are of no line.
-interpreter p "$banner" '\002verbatim:A\005'"$(repeated 999 x | sed 's/x/\\002a:\\005/g')" '\002verbatim:B\005'
+interpreter p "$banner" '\002verbatim:A\005'"$(repeated 999 '\002a:\005')" '\002verbatim:B\005'
 script 'a thousand blocks in one piece' "$two" 'ok\nfield 1\nfield 2\nasked\nasked\nbanner a\nanswered 1\nanswered 2\n' \
     '#1 a\n> x\nA\n#2 a\n> y\nB\n'
 sent 'a thousand blocks in one piece' 'start \nsend x\nsend y'
@@ -124,8 +103,8 @@ for length in 1023 1024 1025; do
 done
 
 # Blocks of 32 levels in one another, and then one of 33.
-levels=$(repeated 32 x | sed 's/x/\\002a:/g')$(repeated 32 x | sed 's/x/\\005/g')
-interpreter p "$levels" "$levels" "$(repeated 33 x | sed 's/x/\\002a:/g')"
+levels=$(repeated 32 '\002a:')$(repeated 32 '\005')
+interpreter p "$levels" "$levels" "$(repeated 33 '\002a:')"
 script 'blocks of 32 levels and more' "$two" 'ok\nfield 1\nfield 2\nasked\nasked\nbanner a\nanswered 1\nended a TooDeep lost 1\n' \
     "#1 a\n> x\n$(repeated 32 '{a:')$(repeated 32 '}')\n#2 a\n> y\n? TooDeep\n"
 
@@ -135,8 +114,7 @@ answers_of() {
         printf '%s\n' "printf '$banner'" 'read -r line' "printf '\\002verbatim:'"
         printf '%s\n' "head -c $1 /dev/zero | tr '\\0' a" "printf '\\005'" 'read -r line' "printf '$banner'" 'read -r line'
     } >p.sh
-    rm -f sheet sheet.alt
-    "$tmhost" create sheet
+    fresh
     printf "$two" >given
 }
 answers_of 16777205
@@ -157,7 +135,7 @@ printf 'read -r line\n' >p.sh
     seq 1025 | sed 's/.*/eval &/'
 } >given
 runs 'so many lines wait and no more' \
-    "$(printf 'ok\\n'; seq 1025 | sed 's/.*/field &\\n/' | tr -d '\n'; repeated 1024 'asked@' | sed 's/@/\\n/g')"'refused 14 QueueFull\n' \
+    "$(printf 'ok\\n'; seq 1025 | sed 's/.*/field &\\n/' | tr -d '\n'; repeated 1024 'asked\n')"'refused 14 QueueFull\n' \
     "$(seq 1025 | sed 's/.*/#& a\\n> x\\n?\\n/' | tr -d '\n')" <given
 
 # Fields whose line waits, and lines that are evaluated again.
@@ -192,7 +170,7 @@ interpreter p "$banner"'\002:'
 script 'a fault behind the banner' "$one" 'ok\nfield 1\nasked\nbanner a\nended a BadTag lost 1\n' '#1 a\n> x\n? BadTag\n'
 sent 'a fault behind the banner' 'start one'
 ended 'a fault behind the banner' 1
-interpreter p "$banner$(repeated 33 x | sed 's/x/\\002a:/g')"
+interpreter p "$banner$(repeated 33 '\002a:')"
 script 'a block of 33 levels' "$one" 'ok\nfield 1\nasked\nbanner a\nended a TooDeep lost 1\n' '#1 a\n> x\n? TooDeep\n'
 ended 'a block of 33 levels' 1
 
@@ -263,8 +241,8 @@ read -r line
 printf '\002verbatim:A\005'
 read -r line
 END_OF_CHILD
-rm -f lives sheet sheet.alt
-"$tmhost" create sheet
+rm -f lives
+fresh
 printf "$one"'stop a\nset 1 y\n' >given
 compare 'a stop beside what an interpreter began' "$(timeout 10 "$tmhost" run sheet <given; kill -0 "$(cat begun)" && echo 'that goes on')" \
     "$(printf 'ok\nfield 1\nasked\nbanner a\nanswered 1\nended a Stopped lost 0\nok\nthat goes on')"
@@ -292,8 +270,7 @@ cat >p.sh <<'END_OF_CHILD'
 printf '\002verbatim:\005'
 while IFS= read -r line; do printf '\002verbatim:%s\005' "$line"; done
 END_OF_CHILD
-rm -f sheet sheet.alt
-"$tmhost" create sheet
+fresh
 printf 'session a plain sh p.sh\nsession b plain sh p.sh\nnew 0 a one\nnew 0 b two\neval 1\neval 2\nwait\nstop a\nstop b\n' >given
 compare 'two interpreters' "$("$tmhost" run sheet <given | sort)" \
     "$(printf 'ok\nok\nfield 1\nfield 2\nasked\nasked\nbanner a\nbanner b\nanswered 1\nanswered 2\nended a Stopped lost 0\nended b Stopped lost 0\n' | sort)"
@@ -308,8 +285,7 @@ compare 'two interpreters, shown' "$(answer show sheet)" "$(ending '#2 b\n> two\
     seq 64 | sed 's/.*/eval &/'
     echo wait
 } >given
-rm -f sheet sheet.alt
-"$tmhost" create sheet
+fresh
 compare '64 interpreters' "$("$tmhost" run sheet <given | sort)" \
     "$({ seq 64 | sed 's/.*/ok/'; seq 64 | sed 's/.*/field &/'; seq 128 | sed 's/.*/asked/'; seq 64 | sed 's/.*/banner s&/'; seq 64 | sed 's/.*/answered &/'; seq 64 | sed 's/.*/answered &/'; } | sort)"
 compare '64 interpreters, shown' "$(answer show sheet)" "$(ending "$(seq 64 -1 1 | sed 's/.*/#& s&\\n> x&\\nx&\\n/' | tr -d '\n')" 0)"
@@ -327,8 +303,8 @@ printf '\002verbatim:B\005'
 echo >answered
 read -r line
 END_OF_CHILD
-rm -f answered sheet sheet.alt
-"$tmhost" create sheet
+rm -f answered
+fresh
 printf 'session a plain sh late.sh\nsession b plain sh p.sh\nnew 0 a x\nnew 1 b y\neval 1\neval 2\nwait\n' >given
 compare 'the first session waits for the second' "$("$tmhost" run sheet <given | sort)" \
     "$(printf 'ok\nok\nfield 1\nfield 2\nasked\nasked\nbanner b\nbanner a\nanswered 2\nanswered 1\n' | sort)"
@@ -439,10 +415,12 @@ for line in sys.stdin:
     patience = time.monotonic() + 10
     while line == "loop\n" and not over and time.monotonic() < patience:
         time.sleep(0.01)
-    answer("interrupted" if over else line[:-1])
+    text = "interrupted" if over else line[:-1]
+    # The next interrupt may come as soon as the answer is there.
     over = False
+    answer(text)
 END_OF_CHILD
-script 'interrupts' 'session a plain python3 flags.py\nnew 0 a x\nnew 1 a loop\ninterrupt b\ninterrupt a\neval 1\nwait\ninterrupt a\neval 2\ninterrupt a\nwait\neval 1\nwait 60\n' \
+script 'interrupts' 'session a plain python3 -I -S flags.py\nnew 0 a x\nnew 1 a loop\ninterrupt b\ninterrupt a\neval 1\nwait\ninterrupt a\neval 2\ninterrupt a\nwait\neval 1\nwait 60\n' \
     'ok\nfield 1\nfield 2\nrefused 1 NoSession\nidle a\nasked\nbanner a\nanswered 1\nidle a\nasked\ninterrupted a\nanswered 2\nasked\nanswered 1\n' \
     '#1 a\n> x\nx\n#2 a\n> loop\ninterrupted\n'
 script 'exports of a script' 'session a plain sh w\nnew 0 a x\nexport script\nexport json\nset 1 y\nexport markdown\n' \
@@ -484,8 +462,8 @@ printf '\002verbatim:A\005'
 while :; do sleep 0.1; done
 END_OF_CHILD
 for last in 'stop a\n' ''; do
-    rm -f lives sheet sheet.alt
-    "$tmhost" create sheet
+    rm -f lives
+    fresh
     printf "session a plain sh p.sh\nnew 0 a x\neval 1\nwait\neval 1\n$last" >given
     told=$(timeout 10 "$tmhost" run sheet <given; echo "status $?")
     compare "an interpreter that goes on for ever, '$last'" "$told" "$(printf 'ok\nfield 1\nasked\nbanner a\nanswered 1\nasked\n'; [ -z "$last" ] || echo 'ended a Stopped lost 1'; echo 'status 0')"
@@ -523,16 +501,15 @@ for line in sys.stdin:
             time.sleep(0.01)
     answer(str(count))
 END_OF_CHILD
-script 'an interrupt is one signal' 'session a plain python3 counts.py\nsession b plain python3 counts.py\nnew 0 a x\nnew 1 b x\nnew 2 a one\neval 1\nwait\neval 2\nwait\neval 3\ninterrupt a\nwait\neval 2\nwait\n' \
+script 'an interrupt is one signal' 'session a plain python3 -I -S counts.py\nsession b plain python3 -I -S counts.py\nnew 0 a x\nnew 1 b x\nnew 2 a one\neval 1\nwait\neval 2\nwait\neval 3\ninterrupt a\nwait\neval 2\nwait\n' \
     'ok\nok\nfield 1\nfield 2\nfield 3\nasked\nbanner a\nanswered 1\nasked\nbanner b\nanswered 2\nasked\ninterrupted a\nanswered 3\nasked\nanswered 2\n' \
     '#1 a\n> x\n0\n#2 b\n> x\n0\n#3 a\n> one\n1\n'
 
 # These are its signals, and those of the two ends: two that come together are one to whoever counts them.
-python3 calls.py list - true
+python3 -I -S calls.py list - true
 if [ $? = 0 ]; then
-    rm -f sheet sheet.alt
-    "$tmhost" create sheet
-    python3 calls.py list - "$tmhost" run sheet <given >text
+    fresh
+    python3 -I -S calls.py list - "$tmhost" run sheet <given >text
     compare 'the signals of one interrupt and two ends' "$(grep '^kill' list)" "$(printf 'kill 2\nkill 9\nkill 9')"
 else
     cases=$((cases + 1))
@@ -548,8 +525,8 @@ while :; do
     printf '\002verbatim:A\005'
 done
 END_OF_CHILD
-rm -f lives sheet sheet.alt
-"$tmhost" create sheet
+rm -f lives
+fresh
 {
     printf 'session a plain sh p.sh\nnew 0 a %s\n' "$(repeated 4095 x)"
     seq 17 | sed 's/.*/eval 1\nwait/'

@@ -101,7 +101,7 @@ compare 'the format that it names' "$(od -An -tu1 -j8 -N1 versioned | tr -d ' ')
 "$tmhost" -V >same 2>errors
 compare 'the version by a letter' "$? $(wc -c <errors) $(bytes same)" "0 0 $(bytes text)"
 "$tmhost" --version >/dev/full 2>errors
-compare 'a version over a full output' "$? $(cat errors)" '1 fault 42 Output'
+compare 'a version over a full output' "$? $(text_of errors)" '1 fault 42 Output'
 
 # What `help faults` has of each fault that a program tells: its number and its name.
 "$tmhost" help faults >text 2>errors
@@ -115,7 +115,7 @@ compare 'the same alone, which is a refusal' "$? $(wc -c <same) $(bytes errors)"
 "$tmhost" --help >text 2>errors
 compare 'the help of all' "$? $(wc -c <errors) $(head -c 16 text)" '0 0 A worksheet host'
 "$tmhost" --help >/dev/full 2>errors
-compare 'a help over a full output' "$? $(cat errors)" '1 fault 42 Output'
+compare 'a help over a full output' "$? $(text_of errors)" '1 fault 42 Output'
 "$tmhost" foo 2>/dev/full >text
 compare 'a refusal over full errors' "$? $(wc -c <text)" '2 0'
 

@@ -70,6 +70,6 @@ printf 'read -r line\n' >p.sh
     repeated 1025 'complete 1 1
 '
 } >given
-runs 'so many requests wait and no more' "$(printf 'ok\\nfield 1\\n'; repeated 1024 'asked\\n')"'refused 14 QueueFull\n' '#1 t\n> h\n?\n' <given
+runs 'so many requests wait and no more' "$(printf 'ok\\nfield 1\\n'; repeated 1024 'asked\n')"'refused 14 QueueFull\n' '#1 t\n> h\n?\n' <given
 
 counted completions

@@ -11,8 +11,7 @@ evaluates() {
 
 # A new worksheet by a script that is typed in.
 made() {
-    rm -f sheet sheet.alt
-    "$tmhost" create sheet
+    fresh
     printf "$1" >given
     "$tmhost" run sheet <given >text
 }
@@ -31,6 +30,19 @@ END
 # A file that may be executed, and that the system can't start.
 printf 'no program\n' >broken
 chmod +x broken
+
+# Beside all that comes: a start and an answer of three seconds each, which together take longer than the limit, and neither does.
+cat >slowly.sh <<'END'
+sleep 3
+printf '\002verbatim:\005'
+read -r l
+sleep 3
+printf '\002verbatim:%s\005' "$l"
+END
+"$tmhost" create slow
+printf 'session a plain sh slowly.sh\nnew 0 a x\n' >given
+"$tmhost" run slow <given >text
+{ "$tmhost" eval --timeout 5 slow </dev/null 2>&1; echo "status $?"; } >slow.told &
 
 made ''
 evaluates 'a worksheet without fields' 0 'answered 0 unanswered 0\n' ''
@@ -86,12 +98,12 @@ evaluates 'one that is named and shows an answer' 0 'answered 4 unanswered 0\n' 
 # Numbers that no field has: nothing is evaluated, and not a byte is written.
 printf 'remove 2\n' >given
 "$tmhost" run sheet <given >text
-bytes sheet >before
+before=$(sums sheet)
 for id in 2 9 0 4294967295; do
     evaluates "no field has the number $id" 1 "fault 37 NoField $id\n" '#3 a\n> z\nz 1\n#1 a\n> v\nv 1\n#4 b\n> u\nu 1\n' 3 "$id" 1 8
     evaluates "none to begin with has the number $id" 1 "fault 37 NoField $id\n" '#3 a\n> z\nz 1\n#1 a\n> v\nv 1\n#4 b\n> u\nu 1\n' --from "$id"
 done
-compare 'the bytes are the same' "$(bytes sheet)" "$(cat before)"
+compare 'the bytes are the same' "$(sums sheet)" "$before"
 for id in x '' 3,1 03 1-3 4294967296; do
     words "no number: $id" 2 "error: this is no field: ID is a number, as 3\n\nFor more information, try 'tmhost eval --help'.\n" eval sheet 3 "$id"
     words "no number to begin with: $id" 2 "error: this is no field: ID is a number, as 3\n\nFor more information, try 'tmhost eval --help'.\n" eval --from "$id" sheet
@@ -104,11 +116,11 @@ printf 'exit\n' >plain
 chmod -x plain
 for program in ./nothing nothing-of-this-name ./folder ./plain folder/sh ./count.sh/sh; do
     made "session a plain sh count.sh\nsession b plain $program one two\nsession c plain ./nothing\nnew 0 a x\nnew 1 b y\nnew 2 a z\neval 1\neval 3\nwait\n"
-    bytes sheet >before
+    before=$(sums sheet)
     for options in '' '--jobs 1' '--jobs 64' --strict '--timeout 60' --unanswered '--from 1' '3 2'; do
         evaluates "no program $program $options" 1 'fault 44 NoProgram b\n' '#1 a\n> x\nx 1\n#2 b\n> y\n?\n#3 a\n> z\nz 2\n' $options
     done
-    compare "the bytes are the same, $program" "$(bytes sheet)" "$(cat before)"
+    compare "the bytes are the same, $program" "$(sums sheet)" "$before"
 done
 evaluates 'a number that no field has is told first' 1 'fault 37 NoField 9\n' '#1 a\n> x\nx 1\n#2 b\n> y\n?\n#3 a\n> z\nz 2\n' 2 9
 compare 'as JSON, a program that is not there' "$(answer eval --json sheet 2 </dev/null)" \
@@ -174,18 +186,7 @@ evaluates 'each field of it' 1 'asked\nended a Ended lost 1\nasked\nended a Ende
     '#1 a\n> x\n? Ended\n#2 a\n> y\n? Ended\n#3 b\n> v\nv 1\n#4 a\n> z\n? Ended\n' --jobs 1 --keep-going
 
 # Limits of time.
-made 'session a plain env --default-signal=INT sh turns.sh\nsession b plain sh count.sh\nnew 0 a x\nnew 1 a loop\nnew 2 a y\nnew 3 b z\n'
-evaluates 'a loop is interrupted, and the fields after it are asked' 1 \
-    'asked\nbanner a\nanswered 1\nasked\nover 2\nanswered 2\nasked\nanswered 3\nasked\nbanner b\nanswered 4\nanswered 4 unanswered 0\nover 1 passed 0\n' \
-    '#1 a\n> x\nx\n#2 a\n> loop\ninterrupted\n#3 a\n> y\ny\n#4 b\n> z\nz 1\n' --timeout 2
-printf 'remove 2\n' >given
-"$tmhost" run sheet <given >text
-evaluates 'none is over' 0 'asked\nbanner a\nanswered 1\nasked\nanswered 3\nasked\nbanner b\nanswered 4\nanswered 3 unanswered 0\nover 0 passed 0\n' \
-    '#1 a\n> x\nx\n#3 a\n> y\ny\n#4 b\n> z\nz 1\n' --timeout 60
-printf 'new 1 a deaf\n' >given
-"$tmhost" run sheet <given >text
-
-# Side by side, each over a copy of the worksheet: `beside COPY WORDS` begins one, and `ended_so COPY NAME STATUS TEXT SHEET` looks at it.
+# They go side by side, each over a copy of the worksheet: `beside COPY WORDS` begins one, and `ended_so COPY NAME STATUS TEXT SHEET` looks at it.
 beside() {
     copy=$1
     shift
@@ -197,31 +198,29 @@ ended_so() {
     compare "$2" "$(cat "$1.told")" "$(ending "$4" "$3")"
     compare "$2, shown" "$(answer show "$1" </dev/null)" "$(ending "$5" 0)"
 }
+
+made 'session a plain env --default-signal=INT sh turns.sh\nsession b plain sh count.sh\nnew 0 a x\nnew 1 a loop\nnew 2 a y\nnew 3 b z\n'
+beside looping --timeout 2
+printf 'remove 2\n' >given
+"$tmhost" run sheet <given >text
+evaluates 'none is over' 0 'asked\nbanner a\nanswered 1\nasked\nanswered 3\nasked\nbanner b\nanswered 4\nanswered 3 unanswered 0\nover 0 passed 0\n' \
+    '#1 a\n> x\nx\n#3 a\n> y\ny\n#4 b\n> z\nz 1\n' --timeout 60
+printf 'new 1 a deaf\n' >given
+"$tmhost" run sheet <given >text
+
 # Beside them, too: a limit is kept while the clock passes a moment at which a count of milliseconds may begin anew, one of 32 bits, or of a million or 20
 # bits. `passes COPY SECONDS` begins an evaluation whose clock has SECONDS half a second later; where the system gives none of its own, it has that of all.
 passes() {
     cp sheet "$1"
     cp sheet.alt "$1.alt"
     {
-        begun=$(python3 -c 'import time; time.sleep(1.5 - time.monotonic() % 1); print(int(time.monotonic()))')
+        begun=$(python3 -I -S -c 'import time; time.sleep(1.5 - time.monotonic() % 1); print(int(time.monotonic()))')
         clock="unshare -U -T --monotonic $(($2 - 1 - begun))"
         $clock true 2>/dev/null || clock=
         $clock timeout 30 "$tmhost" eval --timeout 1 "$1" 5
         echo "status $?"
     } </dev/null >"$1.told" 2>&1 &
 }
-# Each of three seconds, a start and an answer: together they take longer than the limit, and neither does.
-cat >slowly.sh <<'END'
-sleep 3
-printf '\002verbatim:\005'
-read -r l
-sleep 3
-printf '\002verbatim:%s\005' "$l"
-END
-"$tmhost" create slow
-printf 'session a plain sh slowly.sh\nnew 0 a x\n' >given
-"$tmhost" run slow <given >text
-{ "$tmhost" eval --timeout 5 slow </dev/null 2>&1; echo "status $?"; } >slow.told &
 passes clock32 4294967
 passes clock20 16384000
 beside deaf --timeout 2
@@ -233,6 +232,9 @@ for clock in clock32 clock20; do
     ended_so $clock "a limit beside a turn of the clock, $clock" 1 'asked\nbanner a\nover 5\nended a Stalled lost 1\nanswered 3 unanswered 1\nover 1 passed 0\n' \
         '#1 a\n> x\nx\n#5 a\n> deaf\n? Stalled\n#3 a\n> y\ny\n#4 b\n> z\nz 1\n'
 done
+ended_so looping 'a loop is interrupted, and the fields after it are asked' 1 \
+    'asked\nbanner a\nanswered 1\nasked\nover 2\nanswered 2\nasked\nanswered 3\nasked\nbanner b\nanswered 4\nanswered 4 unanswered 0\nover 1 passed 0\n' \
+    '#1 a\n> x\nx\n#2 a\n> loop\ninterrupted\n#3 a\n> y\ny\n#4 b\n> z\nz 1\n'
 ended_so slow 'a slow start takes none of the time that its field has' 0 'asked\nbanner a\nanswered 1\nanswered 1 unanswered 0\nover 0 passed 0\n' '#1 a\n> x\nx\n'
 ended_so deaf 'one that hears no interrupt stalls, and the fields after it keep what they show' 1 \
     'asked\nbanner a\nanswered 1\nasked\nover 5\nended a Stalled lost 1\nasked\nbanner b\nanswered 4\nanswered 3 unanswered 1\nover 1 passed 1\n' \
@@ -273,13 +275,13 @@ END
 made 'session a plain env --default-signal=INT sh tells.sh\nnew 0 a x\n'
 : >text
 "$tmhost" eval --timeout 1 sheet >text 2>errors </dev/null
-compare 'a time that is over is told at once' "$? $(cat text errors)" "$(printf '1 asked\nbanner a\nover 1\nanswered 1\nanswered 1 unanswered 0\nover 1 passed 0')"
+compare 'a time that is over is told at once' "$? $(text_of text; text_of errors)" "$(printf '1 asked\nbanner a\nover 1\nanswered 1\nanswered 1 unanswered 0\nover 1 passed 0')"
 # Each wait of the system has the limit that was given: none of these ends sooner, and each sleeps that long where nothing comes.
-python3 calls.py list polls true
+python3 -I -S calls.py list polls true
 listing=$?
 limits_of() {
     if [ $listing != 0 ]; then echo 'some 600 s, 0 others' && return; fi
-    python3 calls.py list polls "$tmhost" "$@" <given >text 2>errors
+    python3 -I -S calls.py list polls "$tmhost" "$@" <given >text 2>errors
     awk '$1 == "poll" && $2 > 570000 && $2 <= 600000 { some = "some 600 s" } $1 == "poll" && $2 > 0 && ($2 <= 570000 || $2 > 600000) { others++ }
         END { print some ", " others + 0 " others" }' list
     cat list >>polls
@@ -329,10 +331,16 @@ for jobs in '' '--jobs 2' '--jobs 64'; do
     compare "two sessions side by side, $jobs, shown" "$(answer show sheet </dev/null)" \
         "$(ending '#1 a\n> x\nx\n#2 a\n> y\ny\n#3 b\n> x\nx\n#4 b\n> y\ny\n' 0)"
 done
-for jobs in '' '--jobs 1'; do
-    compare "one after another they wait for each other, $jobs" "$(sorted 1 $jobs --timeout 1)" \
-        "$(printf 'status 1\nasked\n--\nanswered 2 unanswered 2\nanswered 3\nasked\nasked\nasked\nbanner a\nbanner b\nended a Ended lost 1\nended b Ended lost 1\nover 1\nover 2 passed 1\nover 4')"
-done
+# One after another each waits in vain, for a second. Both go in folders of their own beside what comes next.
+in_folder() {
+    folder=$1
+    shift
+    mkdir "$folder"
+    cp sheet sheet.alt meets.sh "$folder"
+    (cd "$folder" && sorted 1 "$@" --timeout 1 >told) &
+}
+in_folder after_another
+in_folder with_one_job --jobs 1
 made 'session a plain sh count.sh\nsession b plain env --default-signal=INT sh meets.sh b c\nsession c plain env --default-signal=INT sh meets.sh c b\nnew 0 a x\nnew 1 b z\nnew 2 c z\n'
 compare 'a slow one holds no other session back' "$(sorted 2 --jobs 2 --timeout 60)" \
     "$(printf 'status 0\nasked\nasked\n--\nanswered 1\nanswered 2\nanswered 3\nanswered 3 unanswered 0\nasked\nasked\nasked\nbanner a\nbanner b\nbanner c\nover 0 passed 0')"
@@ -362,13 +370,18 @@ compare 'the time of both is over' "$(sorted 2 --jobs 2 --timeout 1)" \
     "$(printf 'status 1\nasked\nasked\n--\nanswered 1\nanswered 2\nanswered 2 unanswered 0\nasked\nasked\nbanner a\nbanner b\nover 1\nover 2\nover 2 passed 0')"
 compare 'both are interrupted before anything else is taken' "$(grep -A 1 '^over 1$' text)" "$(printf 'over 1\nover 2')"
 
+wait
+for folder in after_another with_one_job; do
+    compare "one after another they wait for each other, $folder" "$(cat "$folder/told")" \
+        "$(printf 'status 1\nasked\n--\nanswered 2 unanswered 2\nanswered 3\nasked\nasked\nasked\nbanner a\nbanner b\nended a Ended lost 1\nended b Ended lost 1\nover 1\nover 2 passed 1\nover 4')"
+done
+
 # Each of the most interpreters that there may be is heard.
 {
     seq 64 | sed 's/.*/session s& plain sh echo.sh/'
     seq 64 | sed 's/.*/new 0 s& x&/'
 } >given
-rm -f sheet sheet.alt
-"$tmhost" create sheet
+fresh
 "$tmhost" run sheet <given >text
 compare '64 sessions side by side' "$(timeout 60 "$tmhost" eval --jobs 64 sheet </dev/null 2>&1 | LC_ALL=C sort)" \
     "$({ echo 'answered 64 unanswered 0'; seq 64 | sed 's/.*/asked/'; seq 64 | sed 's/.*/banner s&/'; seq 64 | sed 's/.*/answered &/'; } | LC_ALL=C sort)"
@@ -425,8 +438,7 @@ END
 compare 'the prompt of the next line, as JSON' "$(answer eval --json sheet </dev/null)" "$(cat wanted)"
 
 # Many fields.
-rm -f sheet sheet.alt
-"$tmhost" create sheet
+fresh
 {
     echo 'session a plain sh count.sh'
     yes 'new 0 a x' | head -n 50

@@ -2,26 +2,38 @@
 
 header='TMWSHEET\001A'
 
-# A byte of a format of printf.
-octal() {
-    printf '\\%03o' "$1"
+# How many bytes a format of printf gives, as a format of two bytes, in `length`: its characters are of ASCII, and each escape and each
+# pair of percent signs is one.
+measure() {
+    rest=$1 size=0
+    while :; do
+        case $rest in
+        *[\\%]*)
+            plain=${rest%%[\\%]*}
+            size=$((size + ${#plain} + 1))
+            rest=${rest#"$plain"}
+            case $rest in
+            \\[0-7]*) rest=${rest#????} ;;
+            *) rest=${rest#??} ;;
+            esac
+            ;;
+        *) break ;;
+        esac
+    done
+    size=$((size + ${#rest}))
+    length="\\$((size / 16384))$((size / 2048 % 8))$((size / 256 % 8))\\$((size / 64 % 4))$((size / 8 % 8))$((size % 8))"
 }
 
-# The record of a payload that is typed in.
-record() {
-    printf "$1" >payload
-    size=$(wc -c <payload)
-    printf "R\\000\\000$(octal $((size / 256)))$(octal $((size % 256)))"
-    cat payload
-}
-
-# Begins the file `area`: a session `a` of the words `sh` and `w`, without completions. Then records follow, and a closed gate.
+# Begins the file `area`: a session `a` of the words `sh` and `w`, without completions. Then records follow, whose payloads are typed in, and
+# a closed gate.
 begin() {
-    rm -f area area.alt
-    { printf "$header"; record '\001\001a\000\002\000\002sh\000\001w'; } >area
+    [ ! -e area.alt ] || rm area.alt
+    printf "$header" >area
+    put '\001\001a\000\002\000\002sh\000\001w'
 }
 put() {
-    record "$1" >>area
+    measure "$1"
+    printf "R\\000\\000$length$1" >>area
 }
 finish() {
     printf '\000' >>area
@@ -30,10 +42,10 @@ finish() {
 # The file `area` with one field, whose input, prompt and block of an answer are typed in.
 answered() {
     begin
-    printf "$1" >text
-    put "\\002\\000\\000\\000\\000\\001a$(octal $(($(wc -c <text) / 256)))$(octal $(($(wc -c <text) % 256)))$1"
-    printf "$2" >text
-    put "\\007\\000\\000\\000\\001$(octal $(($(wc -c <text) / 256)))$(octal $(($(wc -c <text) % 256)))$2\\002$3\\005"
+    measure "$1"
+    put "\\002\\000\\000\\000\\000\\001a$length$1"
+    measure "$2"
+    put "\\007\\000\\000\\000\\001$length$2\\002$3\\005"
     finish
 }
 
@@ -42,7 +54,7 @@ fields_of() {
     "$tmhost" export html area 2>errors >text </dev/null
     status=$?
     sed '1,/^<main>$/d' text
-    cat errors
+    text_of errors
     echo "status $status"
 }
 
@@ -385,7 +397,7 @@ noted 'lines in a notebook' x 'verbatim:one\n\ttwo\n' x '"text/plain":"one\n\ttw
 noted 'control bytes in a notebook' x 'verbatim:a\000\r\033\033\177b' x '"text/plain":"a\\x00\\x0d\\x1b\\x7fb"'
 noted 'stray bytes in a notebook' x 'verbatim:\377a\342\202b\355\240\200' x '"text/plain":"\\xffa\\xe2\\x82b\\xed\\xa0\\x80"'
 noted 'a character that is cut off in a notebook' x 'verbatim:x\360\237\230' x '"text/plain":"x\\xf0\\x9f\\x98"'
-noted 'characters in a notebook' "$(printf 'gr\303\274n')" 'verbatim:\342\202\254\360\237\230\200' "$(printf 'gr\303\274n')" "$(printf '"text/plain":"\342\202\254\360\237\230\200"')"
+noted 'characters in a notebook' 'gr\303\274n' 'verbatim:\342\202\254\360\237\230\200' "$(printf 'gr\303\274n')" "$(printf '"text/plain":"\342\202\254\360\237\230\200"')"
 outputs 'a formula in a notebook' 'latex:$x^2$' "$(formula_json '$x^2$')"
 outputs 'a formula on its own in a notebook' 'latex:$$\\frac{1}{2}$$' "$(formula_json '$$\\frac{1}{2}$$')"
 outputs 'a stray byte in a formula' 'latex:$x\377y$' "$(formula_json '$x\\xffy$')"
@@ -500,10 +512,11 @@ compare 'their notebook' "$(answer export notebook area </dev/null)" '{"cells":[
 # Scripts: NAME SCRIPT TEXT. A worksheet that is made by the script is exported as the text; run over an empty worksheet, the text makes
 # one with the same script.
 scripted() {
-    rm -f sheet sheet.alt other other.alt
-    "$tmhost" create sheet
+    rm -f other other.alt
+    fresh
     "$tmhost" create other
-    printf "$2" | "$tmhost" run sheet >/dev/null
+    printf "$2" >given
+    "$tmhost" run sheet <given >/dev/null
     compare "$1" "$(answer export script sheet </dev/null)" "$(ending "$3" 0)"
     "$tmhost" export script sheet >given
     "$tmhost" run other <given >/dev/null
@@ -535,10 +548,10 @@ live_exports() {
 
 # The same in JSON, where the text that is wanted is the input here: TASK NAME LINES. The style of a page is left out.
 json_exports() {
-    cat >wanted
+    want=$(cat; echo 'status 0')
     printf "$3" >given
     answer "$1" --json area <given >text
-    compare "$2" "$(sed 's/<style>.*<\/style>/<style>/' text)" "$(cat wanted; echo 'status 0')"
+    compare "$2" "$(sed 's/<style>.*<\/style>/<style>/' text)" "$want"
 }
 live_exports 'no script by live' 'export script\nexport markdown\nprint\n' 'no script\n'
 json_exports live 'no script by live, in JSON' 'export script\nexport markdown\n' <<'END_OF_JSON'
@@ -617,6 +630,6 @@ done
 hang_up 'a worksheet in use' '' '#1 a\n> x\n?\n'
 for format in script markdown html notebook; do
     "$tmhost" export $format sheet >/dev/full 2>errors
-    compare "$format on a full output" "$? $(cat errors)" '1 fault 42 Output'
+    compare "$format on a full output" "$? $(text_of errors)" '1 fault 42 Output'
 done
 counted exports

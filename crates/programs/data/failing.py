@@ -5,7 +5,6 @@ Where the system or the processor has no such filter of calls the status is 77, 
 import ctypes
 import errno
 import os
-import platform
 import struct
 import sys
 
@@ -31,7 +30,7 @@ class Program(ctypes.Structure):
 
 
 call, error, *words = sys.argv[1:]
-number = CALLS.get(platform.machine(), {}).get(call)
+number = CALLS.get(os.uname().machine, {}).get(call)
 if number is None:
     sys.exit(77)
 code = filter_of(number, call == "pread64", getattr(errno, error))

@@ -7,14 +7,28 @@ room=$here
 if [ -d /dev/shm ] && [ -w /dev/shm ]; then room=$(mktemp -d /dev/shm/files.XXXXXX); fi
 cd "$room" || exit
 
-python3 "$here/calls.py" list - true
-listing=$?
+# One Python runs all programs whose calls are listed, since its own start takes longer than theirs. The program, with its FAILS and WORDS,
+# reads the file `given` and writes `said`; `status` is then its status.
+: >given
+mkfifo calls.in calls.out
+python3 -I -S "$here/calls.py" list <calls.in >calls.out &
+lister=$!
+exec 5>calls.in 6<calls.out
+lists() {
+    fails=$1
+    shift
+    echo "$fails" "$@" >&5
+    read -r status <&6
+}
+lists - true
+listing=$status
 # NAME STATUS TEXT LIST FAILS WORDS, of the input in the file given. Where the system has no filter of calls the case counts as it is.
 asks() {
     name=$1 want=$(ending "$3" "$2"; printf "$4") fails=$5
     shift 5
-    if [ $listing = 0 ]; then
-        got=$(python3 "$here/calls.py" list "$fails" "$tmhost" "$@" 2>&1 <given; echo "status $?"; cat list)
+    if [ "$listing" = 0 ]; then
+        lists "$fails" "$tmhost" "$@"
+        got=$(text_of said; echo "status $status"; cat list)
     else
         got=$want
     fi
@@ -114,20 +128,29 @@ rm -rf far near
 # Each of these calls fails, once and alone, and the next ones don't: none of them is made any more, and what comes is told. WORDS, LINES of
 # the list, the FAULT for each line, and of each what is shown then.
 fails_at_each() {
-    at=0
-    printf "$2" >lines
+    rest=$2 upto= calls= wants=$4
     for fault in $3; do
-        at=$((at + 1))
-        line=$(sed -n "${at}p" lines)
+        line=${rest%%\\n*}
+        rest=${rest#*\\n}
+        upto=$upto$line
         call=${line%% *}
-        count=$(head -n $at lines | grep -c "^$call ")
-        rm -f made made.alt
+        count=1
+        for made in $calls; do
+            if [ "$made" = "$call" ]; then count=$((count + 1)); fi
+        done
+        calls="$calls $call"
         printf 'set 1 new\n' >given
-        [ "${1%% *}" = create ] || { "$tmhost" create made; cp kept made; }
-        asks "$1, $line fails" 1 "fault $(echo "$fault" | tr _ ' ')\n" "$(head -n $at lines | sed 's/$/\\n/' | tr -d '\n' | sed 's/\\n$//') EIO\n" "$call:$count:EIO" $1
+        if [ "${1%% *}" = create ]; then
+            rm -f made made.alt
+        else
+            cp kept made
+            : >made.alt
+        fi
+        asks "$1, $line fails" 1 "fault ${fault%_*} ${fault#*_}\n" "$upto EIO\n" "$call:$count:EIO" $1
+        upto=$upto'\n'
         if [ -n "$4" ]; then
-            want=$(echo "$4" | cut -d ' ' -f $at)
-            compare "$1, $line fails, shown" "$(answer show made </dev/null)" "$(ending "#1 a\n> $want\n?\n" 0)"
+            compare "$1, $line fails, shown" "$(answer show made </dev/null)" "$(ending "#1 a\n> ${wants%% *}\n?\n" 0)"
+            wants=${wants#* }
         fi
     done
 }
@@ -144,7 +167,7 @@ for program in run live 'run --strict'; do
     fails_at_each "$program made" "$(of_made "$written")" '32_Disk 32_Disk 32_Disk 32_Disk 21_Disk 21_Disk 21_Disk 21_Disk' 'old old old old old old old new'
 done
 fails_at_each 'show made' "$(of_made "$shown" | sed 's/told\\n$//')" '32_Disk 32_Disk 32_Disk' 'old old old'
-rm -f made made.alt kept lines
+rm -f made made.alt kept
 
 # A write that fails in the middle of a session, on a device that is full then: all that was told is there, and no more is told.
 changes() {
@@ -159,9 +182,13 @@ rm -f w w.alt
 "$tmhost" create w
 changes 60 >given
 : >list
-if [ $listing = 0 ]; then got=$(python3 "$here/calls.py" list write:101:ENOSPC "$tmhost" run w 2>&1 <given; echo "status $?"); else got=$(ending "$(told_of 50)fault 21 Disk\n" 1); fi
+got=$(ending "$(told_of 50)fault 21 Disk\n" 1)
+if [ "$listing" = 0 ]; then
+    lists write:101:ENOSPC "$tmhost" run w
+    got=$(cat said; echo "status $status")
+fi
 compare 'a write that fails behind fifty changes' "$got" "$(ending "$(told_of 50)fault 21 Disk\n" 1)"
-if [ $listing = 0 ]; then compare 'that one, shown' "$(answer show w </dev/null)" "$(ending '#1 a\n> 50\n?\n' 0)"; else cases=$((cases + 1)); fi
+if [ "$listing" = 0 ]; then compare 'that one, shown' "$(answer show w </dev/null)" "$(ending '#1 a\n> 50\n?\n' 0)"; else cases=$((cases + 1)); fi
 
 # A session of 50,000 calls: nothing is told of bytes that were written and are not on the disk, and the worksheet opens then.
 rm -f w w.alt
@@ -172,9 +199,9 @@ before_its_time() {
         $1 == "told" { for (file in dirty) if (dirty[file]) early++ } { made[$1]++ }
         END { print made["write"], made["fdatasync"], made["told"], early + 0 }' list
 }
-if [ $listing = 0 ]; then
-    python3 "$here/calls.py" list - "$tmhost" run w <given >text 2>&1
-    compare 'a session of 50,000 calls' "$? $(cksum <text)" "0 $(printf "$(told_of 12500)" | cksum)"
+if [ "$listing" = 0 ]; then
+    lists - "$tmhost" run w
+    compare 'a session of 50,000 calls' "$status $(cksum <said)" "0 $(printf "$(told_of 12500)" | cksum)"
     compare 'writes, syncs, what was told, and how often too early' "$(before_its_time)" '25000 25001 25000 0'
 else
     "$tmhost" run w <given >text
@@ -228,6 +255,9 @@ words 'show at the first 200 bytes of it' 0 '' show "$folder/$(repeated 49 f)"
 compare 'the files there' "$(ls "$folder" | awk '{ print length($0) }' | sort -n | tr '\n' ' ')" '49 53 149 153 '
 rm -r "$folder"
 
+exec 5>&- 6<&-
+wait "$lister"
+rm calls.in calls.out said
 cd "$here" || exit
 if [ "$room" != "$here" ]; then rm -r "$room"; fi
 counted files

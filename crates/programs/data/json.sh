@@ -1,19 +1,5 @@
 # Live worksheets told as lines of JSON.
 
-# A case: TASK NAME STATUS LINES, where the text that is wanted is the input here. The lines are taken over a new worksheet.
-told_in_json() {
-    cat >wanted
-    rm -f sheet sheet.alt
-    "$tmhost" create sheet
-    printf "$4" >given
-    compare "$2" "$(answer "$1" --json sheet <given)" "$(cat wanted; echo "status $3")"
-}
-
-# The same of `live`: NAME STATUS LINES.
-json() {
-    told_in_json live "$@"
-}
-
 json 'no line' 0 '' <<'END_OF_JSON'
 {"format":1,"program":"tmhost","protocol":2,"type":"hello","version":"0.1.0"}
 {"type":"end"}
@@ -167,12 +153,10 @@ status 0
 END_OF_JSON
 printf 'session a plain sh p.sh\nnew 0 a x\nnew 1 a y\neval 1\n' >given
 printf 'foo\nnew 0 b z\n# a remark\nset 1 z\nprint 1\nwait\nwait 10\ninterrupt a\neval 2\nmove 2 0\nprint 1' >rest
-rm -f sheet sheet.alt
-"$tmhost" create sheet
+fresh
 compare 'lines before what an interpreter wrote long ago' "$( (cat given; sleep 1; cat rest) | answer run --json sheet)" "$(cat wanted)"
 cat rest >>given
-rm -f sheet sheet.alt
-"$tmhost" create sheet
+fresh
 compare 'the same lines at once' "$(answer run --json sheet <given)" "$(cat wanted)"
 rm rest
 run_json 'a script with a wait whose time is over' 0 'session a plain sh silent.sh\nnew 0 a x\neval 1\nwait 1\nprint 1\n' <<'END_OF_JSON'
@@ -268,8 +252,7 @@ hang_up 'a talk in JSON' '{"type":"end"}\n' '#1 a\n> x\nA\n#2 a\n> z\n?\n'
     echo 'session a plain p'
     seq 0 2999 | awk '{ print "new " $1 " a x" $1 + 1 }'
 } >given
-rm -f sheet sheet.alt
-"$tmhost" create sheet
+fresh
 "$tmhost" run sheet <given >text
 echo print >given
 compare '3,000 fields are printed in JSON' "$({ answer live --json sheet <given; } | cksum)" "$({
@@ -302,8 +285,7 @@ name='a damaged worksheet' faulty - damaged <<'END_OF_JSON'
 {"name":"Damaged","number":30,"offset":10,"type":"fault"}
 fault 30 Damaged 10
 END_OF_JSON
-rm -f sheet sheet.alt
-"$tmhost" create sheet
+fresh
 cat >wanted <<'END_OF_JSON'
 {"format":1,"program":"tmhost","protocol":2,"type":"hello","version":"0.1.0"}
 {"name":"Input","number":40,"type":"fault"}
@@ -312,16 +294,15 @@ status 1
 END_OF_JSON
 compare 'an input that is a folder' "$(answer live --json sheet </)" "$(cat wanted)"
 "$tmhost" live --json sheet </dev/null >/dev/full 2>errors
-compare 'a full output' "$? $(cat errors)" '1 fault 42 Output'
+compare 'a full output' "$? $(text_of errors)" '1 fault 42 Output'
 "$tmhost" live --json sheet </dev/null 2>errors >&-
-compare 'a closed output' "$? $(cat errors)" '1 fault 42 Output'
+compare 'a closed output' "$? $(text_of errors)" '1 fault 42 Output'
 
 # The words of `live` and its JSON leave the same worksheet.
 interpreter p "$banner" '\002verbatim:A\005' '\002verbatim:B\005'
 printf 'session a plain sh p.sh\nnew 0 a x\nnew 1 a y\neval 1\neval 2\nwait\nset 1 z\n' >given
 for form in '' --json; do
-    rm -f sheet sheet.alt
-    "$tmhost" create sheet
+    fresh
     "$tmhost" live $form sheet <given >/dev/null
     mv sheet "sheet$form.kept"
 done
@@ -351,11 +332,10 @@ END
 # A case of it: NAME FLAGS LINE.
 partial() {
     cat >wanted
-    rm -f sheet sheet.alt
-    "$tmhost" create sheet
+    fresh
     printf 'session a plain sh slow.sh\nnew 0 a %s\neval 1\nwait\n' "$3" >given
     "$tmhost" live $2 sheet <given >text 2>errors
-    compare "$1" "status $? $(cat text errors)" "status 0 $(cat wanted)"
+    compare "$1" "status $? $(text_of text; text_of errors)" "status 0 $(cat wanted)"
 }
 
 for flags in '--json --partial' --partial; do

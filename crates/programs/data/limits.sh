@@ -24,8 +24,8 @@ both 'a word of 1,025 bytes' "session a plain p $(long 1025)" 'refused 6 BadWord
 both 'a word of 20,000 bytes' "session a plain p $(long 20000)" 'refused 6 BadWords\n' ''
 
 seq 0 64 | sed 's/.*/session s& plain p/' >given
-runs '65 sessions' "$(repeated 64 'ok@' | sed 's/@/\\n/g')"'refused 9 TooManySessions\n' '' <given
-remembers '65 sessions in memory' "$(repeated 64 'ok@' | sed 's/@/\\n/g')"'refused 9 TooManySessions\n' <given
+runs '65 sessions' "$(repeated 64 'ok\n')"'refused 9 TooManySessions\n' '' <given
+remembers '65 sessions in memory' "$(repeated 64 'ok\n')"'refused 9 TooManySessions\n' <given
 
 # A script of a session and so many fields, each after the one before it.
 fields() {
@@ -57,7 +57,7 @@ for length in 65535 65536 65537 131072; do
 done
 head -c 67108864 /dev/zero >given
 runs 'the longest script' 'bad line 1\n' '' <given
-head -c 67108865 /dev/zero >given
+printf '\000' >>given
 compare 'a script of one byte too many' "$(answer run sheet <given)" "$(ending 'fault 41 InputTooLong\n' 1)"
 rm given
 
@@ -65,7 +65,7 @@ rm given
 printf 'print\n' >given
 : >empty
 compare 'a file without a byte' "$(answer run empty <given)" "$(ending 'fault 31 NotASheet\n' 1)"
-compare 'it is left so' "$(wc -c <empty)" 0
+compare 'it is left so' "$([ -s empty ] || echo empty)" empty
 
 # What can't be opened, and why, by each program: damage, what is no worksheet, and a disk that fails, since a file is longer than it may be.
 printf 'TMWSHEET\001AR\000\000\000\011abc' >damaged
@@ -82,8 +82,7 @@ rm -f damaged damaged.alt too_long too_long.alt
 # were taken together. FORM TEXT INPUT BETWEEN, of a worksheet whose files may have 512 bytes; BETWEEN is a line before the change that
 # is too long.
 filled() {
-    rm -f sheet sheet.alt
-    "$tmhost" create sheet
+    fresh
     printf 'session a plain sh p.sh\nnew 0 a x\n' >given
     "$tmhost" run sheet <given >text
     printf "set 1 y\n$4set 1 $(long 1000)\nset 1 z\n" >given
@@ -115,29 +114,40 @@ compare 'a checkpoint on a full disk, shown' "$(answer show sheet </dev/null)" "
 compare 'create on a full disk' "$(limited 0 create full)" "$(ending 'fault 32 Disk\n' 1)"
 rm -f full full.alt
 
-# A worksheet of 8,193 fields, made of its bytes: each field stands in front of those before it, the last one has another number and an
-# answer of 2,000,000 bytes.
+# A worksheet of 8,193 fields, made of its bytes, of which those of the first ones stand in the file `many`. The last one stands in front of
+# the others, and has another number and an answer of 2,000,000 bytes.
+head -c 2000000 /dev/zero | tr '\0' a >long
 answer_of_many() {
-    head -c 2000000 /dev/zero | tr '\0' a
+    cat long
 }
+lay_many() {
+    {
+        printf 'TMWSHEET\001AR\000\000\000\011\001\001a\000\001\000\002sh'
+        cat many
+        printf 'R\000\000\000\005\011\000\000\165\060R\000\000\000\012\002\000\000\000\000\001a\000\001y'
+        printf 'R\000\036\204\224\007\000\000\165\060\000\002> \002verbatim:'
+        answer_of_many
+        printf '\005\000'
+    } >big
+    rm -f big.alt saved saved.alt
+}
+
+# Each of the first ones stands in front of those before it. To put it there takes the longer the more they are.
 printf 'R\000\000\000\012\002\000\000\000\000\001a\000\001x' >many
 for count in $(seq 13); do
     cat many many >more
     mv more many
 done
-{
-    printf 'TMWSHEET\001AR\000\000\000\011\001\001a\000\001\000\002sh'
-    cat many
-    printf 'R\000\000\000\005\011\000\000\165\060R\000\000\000\012\002\000\000\000\000\001a\000\001y'
-    printf 'R\000\036\204\224\007\000\000\165\060\000\002> \002verbatim:'
-    answer_of_many
-    printf '\005\000'
-} >big
-rm -f big.alt saved saved.alt
-compare 'many fields are shown' "$("$tmhost" show big </dev/null | cksum)" \
+lay_many
+sum=$("$tmhost" show big </dev/null | cksum)
+compare 'many fields are shown' "$sum" \
     "$({ printf '#30000 a\n> y\n'; answer_of_many; echo; seq 8192 -1 1 | awk '{ print "#" $1 " a\n> x\n?" }'; } | cksum)"
 compare 'many fields are rescued' "$(answer rescue big saved </dev/null)" "$(ending 'kept 8196, whole\n' 0)"
-compare 'many fields that were rescued' "$("$tmhost" show saved </dev/null | cksum)" "$("$tmhost" show big </dev/null | cksum)"
+compare 'many fields that were rescued' "$("$tmhost" show saved </dev/null | cksum)" "$sum"
+
+# What is exported has each of the first ones behind those before it.
+printf "$(seq 0 8191 | awk '{ printf "R\\000\\000\\000\\012\\002\\000\\000\\%03o\\%03o\\001a\\000\\001x", int($1 / 256), $1 % 256 }')" >many
+lay_many
 compare 'many fields as a script' "$("$tmhost" export script big </dev/null | cksum)" \
     "$({ printf 'session a plain sh\nnew 0 a y\n'; seq 8192 | sed 's/.*/new & a x/'; } | cksum)"
 compare 'many fields as Markdown' "$("$tmhost" export markdown big </dev/null | cksum)" \
@@ -155,7 +165,7 @@ compare 'many fields as a page' "$("$tmhost" export html big </dev/null | sed '1
         printf '<pre class="out" dir="ltr">\n'
         answer_of_many
         printf '</pre>\n</section>\n'
-        seq 8192 -1 1 | sed 's/$/ x/' | awk -f page.awk
+        seq 8192 | sed 's/$/ x/' | awk -f page.awk
         printf '</main>\n</body>\n</html>\n'
     } | cksum)"
 compare 'many fields as a notebook' "$("$tmhost" export notebook big </dev/null | cksum)" \
@@ -163,7 +173,7 @@ compare 'many fields as a notebook' "$("$tmhost" export notebook big </dev/null 
         printf '{"cells":[{"cell_type":"code","execution_count":null,"id":"field-30000","metadata":{"tmhost":{"session":"a"}},"outputs":[{"data":{"text/plain":"'
         answer_of_many
         printf '"},"execution_count":null,"metadata":{},"output_type":"execute_result"}],"source":"y"}'
-        seq 8192 -1 1 | sed 's/.*/,{"cell_type":"code","execution_count":null,"id":"field-&","metadata":{"tmhost":{"session":"a"}},"outputs":[],"source":"x"}/' | tr -d '\n'
+        seq 8192 | sed 's/.*/,{"cell_type":"code","execution_count":null,"id":"field-&","metadata":{"tmhost":{"session":"a"}},"outputs":[],"source":"x"}/' | tr -d '\n'
         printf '],"metadata":{},"nbformat":4,"nbformat_minor":5}'
     } | cksum)"
 compare 'many fields as JSON' "$("$tmhost" export json big </dev/null | cksum)" \
@@ -173,25 +183,32 @@ compare 'many fields as JSON' "$("$tmhost" export json big </dev/null | cksum)" 
         printf '"],"kind":"format","tag":"verbatim"},"prompt":"> ","session":"a","shown":"'
         answer_of_many
         printf '","state":"answered"},"type":"field"}\n'
-        seq 8192 -1 1 | sed 's/.*/{"field":{"id":&,"input":"x","session":"a","state":"empty"},"type":"field"}/'
+        seq 8192 | sed 's/.*/{"field":{"id":&,"input":"x","session":"a","state":"empty"},"type":"field"}/'
         printf '{"fields":[30000'
-        seq 8192 -1 1 | sed 's/^/,/' | tr -d '\n'
+        seq 8192 | sed 's/^/,/' | tr -d '\n'
         printf '],"next":30001,"sessions":[{"life":null,"name":"a","tab":false,"waiting":0,"words":["sh"]}],"type":"sheet"}\n{"type":"end"}\n'
     } | cksum)"
 
 # The same answer alone, and a little less memory, in units of 1,024 bytes, than these words take: NAME TEXT WORDS. That is reported.
+rm -f big.alt
 {
     printf 'TMWSHEET\001AR\000\000\000\011\001\001a\000\001\000\002shR\000\000\000\012\002\000\000\000\000\001a\000\001y'
     printf 'R\000\036\204\224\007\000\000\000\001\000\002> \002verbatim:'
     answer_of_many
     printf '\005\000'
 } >big
+fits() {
+    limit=$1
+    shift
+    (ulimit -v "$limit" && exec "$tmhost" "$@") </dev/null >text 2>errors
+}
 without_memory() {
-    name=$1 text=$2 low=0 high=262144
+    name=$1 text=$2 low=0 high=16384
     shift 2
+    until fits $high "$@"; do low=$high high=$((2 * high)); done
     while [ $((high - low)) -gt 256 ]; do
         middle=$(((low + high) / 2))
-        if (ulimit -v $middle && exec "$tmhost" "$@") </dev/null >text 2>errors; then high=$middle; else low=$middle; fi
+        if fits $middle "$@"; then high=$middle; else low=$middle; fi
     done
     compare "$name without memory" "$(ulimit -v $low && answer "$@" </dev/null)" "$(ending "$text" 1)"
 }
@@ -203,7 +220,7 @@ done
 # time over such an input. out SCRIPT WORDS: the output is such a one, and is read late. full SCRIPT WORDS: so it is, and it has no room
 # until then.
 cat >patient.py <<'END_OF_PATIENT'
-import contextlib, os, subprocess, sys, time
+import os, sys, time
 
 way, script, *words = sys.argv[1:]
 given, kept = os.pipe()
@@ -211,10 +228,13 @@ taken, put = os.pipe()
 os.set_blocking(given if way == "in" else put, False)
 held = 0
 if way == "full":
-    with contextlib.suppress(BlockingIOError):
+    try:
         while True:
             held += os.write(put, b"x" * 512)
-child = subprocess.Popen(words, stdin=given, stdout=put, stderr=subprocess.STDOUT)
+    except BlockingIOError:
+        pass
+streams = [(os.POSIX_SPAWN_DUP2, given, 0), (os.POSIX_SPAWN_DUP2, put, 1), (os.POSIX_SPAWN_DUP2, put, 2)]
+child = os.posix_spawnp(words[0], words, os.environ, file_actions=streams)
 os.close(given)
 os.close(put)
 with open(script, "rb") as lines:
@@ -225,35 +245,57 @@ os.close(kept)
 time.sleep(0 if way == "in" else 0.5)
 with open(taken, "rb") as text:
     sys.stdout.buffer.write(text.read()[held:])
-sys.stdout.buffer.write(b"status %d\n" % child.wait())
+sys.stdout.buffer.write(b"status %d\n" % os.waitstatus_to_exitcode(os.waitpid(child, 0)[1]))
 END_OF_PATIENT
-printf 'session b plain true\nnew 0 b y\nremove 1\n' >given
+# They go side by side, each over files of its own, since each takes half a second. What one tells stands in the file `NAME.patient`.
+patient() {
+    told=$1
+    shift
+    python3 -I -S patient.py "$@" >"$told.patient" &
+}
+count=0
+printf 'session b plain true\nnew 0 b y\nremove 1\n' >given.in
 for program in run 'run --strict' 'run --timeout 5' live; do
-    rm -f sheet sheet.alt
-    "$tmhost" create sheet
-    compare "$program of an input that doesn't block" "$(python3 patient.py in given "$tmhost" $program sheet)" "$(ending 'ok\nfield 1\nok\n' 0)"
+    count=$((count + 1))
+    "$tmhost" create "in$count"
+    patient "in$count" in given.in "$tmhost" $program "in$count"
 done
-printf '\002verbatim:A\005\nnoise\n\002verbatim:B\005' >given
-compare "blocks of an input that doesn't block" "$(python3 patient.py in given "$tmhost" blocks)" "$(answer blocks <given)"
+printf '\002verbatim:A\005\nnoise\n\002verbatim:B\005' >given.blocks
+patient blocks in given.blocks "$tmhost" blocks
 printf 'print\n' >given
 for program in show 'export html' 'export json' run live 'live --json'; do
-    compare "$program into an output that doesn't block" "$(python3 patient.py out given "$tmhost" $program big | cksum)" \
-        "$({ "$tmhost" $program big <given; echo 'status 0'; } | cksum)"
+    count=$((count + 1))
+    cp big "out$count"
+    patient "out$count" out given "$tmhost" $program "out$count"
 done
-compare "errors that don't block, without room" "$(python3 patient.py full given "$tmhost" show nothing)" "$(answer show nothing)"
-rm -f big big.alt saved saved.alt many page.awk patient.py
+patient full full given "$tmhost" show nothing
+wait
+count=0
+for program in run 'run --strict' 'run --timeout 5' live; do
+    count=$((count + 1))
+    compare "$program of an input that doesn't block" "$(cat "in$count.patient")" "$(ending 'ok\nfield 1\nok\n' 0)"
+done
+compare "blocks of an input that doesn't block" "$(cat blocks.patient)" "$(answer blocks <given.blocks)"
+for program in show 'export html' 'export json' run live 'live --json'; do
+    count=$((count + 1))
+    compare "$program into an output that doesn't block" "$(cksum <"out$count.patient")" \
+        "$({ "$tmhost" $program "out$count" <given; echo 'status 0'; } | cksum)"
+done
+compare "errors that don't block, without room" "$(cat full.patient)" "$(answer show nothing)"
+rm -f in[1-4] in[1-4].alt out* *.patient given.in given.blocks
+rm -f big big.alt saved saved.alt many long page.awk patient.py
 
 # Calls on real files that fail each time: NAME CALL ERROR STATUS TEXT WORDS. Where the system has no filter of calls the case counts so.
-python3 failing.py fsync EIO true
+python3 -I -S failing.py fsync EIO true
 filtered=$?
 failing() {
     name=$1 call=$2 error=$3 want=$(ending "$5" "$4")
     shift 5
-    if [ $filtered = 0 ]; then got=$(python3 failing.py "$call" "$error" "$tmhost" "$@" 2>&1; echo "status $?"); else got=$want; fi
+    if [ $filtered = 0 ]; then got=$(python3 -I -S failing.py "$call" "$error" "$tmhost" "$@" 2>&1; echo "status $?"); else got=$want; fi
     compare "$name" "$got" "$want"
 }
-rm -f sheet sheet.alt made made.alt
-"$tmhost" create sheet
+rm -f made made.alt
+fresh
 printf 'session a plain p\nnew 0 a x\n' >given
 "$tmhost" run sheet <given >text
 printf 'set 1 y\n' >given
@@ -269,10 +311,10 @@ compare 'a script that is a folder' "$(answer run sheet </)" "$(ending 'fault 40
 compare 'a script that is a folder, in memory' "$(answer in memory </)" "$(ending 'fault 40 Input\n' 1)"
 printf 'remove 1\n' >given
 "$tmhost" in memory <given >/dev/full 2>errors
-compare 'a script in memory over a full output' "$? $(cat errors)" '1 fault 42 Output'
+compare 'a script in memory over a full output' "$? $(text_of errors)" '1 fault 42 Output'
 interpreter p "$banner" '\002verbatim:A\005'
 printf 'session b plain sh p.sh\nnew 0 b y\neval 1\n' >given
 "$tmhost" run sheet <given >/dev/full 2>errors
-compare 'a script with an evaluation over a full output' "$? $(cat errors)" '1 fault 42 Output'
+compare 'a script with an evaluation over a full output' "$? $(text_of errors)" '1 fault 42 Output'
 
 counted limits

@@ -140,12 +140,12 @@ printf 'TMWSHEET\001AR\000\000\000\011abc' >damaged
 words 'live over a damaged worksheet' 1 'fault 30 Damaged 10\n' live damaged
 compare 'an input that is a folder' "$(answer live sheet </)" "$(ending 'fault 40 Input\n' 1)"
 "$tmhost" live sheet <&- 2>errors
-compare 'a closed input' "$? $(cat errors)" '1 fault 40 Input'
+compare 'a closed input' "$? $(text_of errors)" '1 fault 40 Input'
 printf 'remove 1\n' >given
 "$tmhost" live sheet <given >/dev/full 2>errors
-compare 'a full output' "$? $(cat errors)" '1 fault 42 Output'
+compare 'a full output' "$? $(text_of errors)" '1 fault 42 Output'
 "$tmhost" live sheet <given 2>errors >&-
-compare 'a closed output' "$? $(cat errors)" '1 fault 42 Output'
+compare 'a closed output' "$? $(text_of errors)" '1 fault 42 Output'
 
 # A line is written when the reply to the one before it is read. Beside it the worksheet is in use.
 interpreter p "$banner" '\002verbatim:A\005' '\002verbatim:B\005'
@@ -179,10 +179,6 @@ ended 'a talk' 1
 sent 'a talk' 'start \nsend x\nsend y'
 
 # Three interpreters: one never says anything, one is slow, one is quick.
-cat >silent.sh <<'END_OF_CHILD'
-echo $$ >>lives
-exec sleep 20
-END_OF_CHILD
 cat >slow.sh <<'END_OF_CHILD'
 echo $$ >>lives
 until [ -e go ]; do sleep 0.05; done
@@ -284,8 +280,7 @@ printf 'printf "\\002verbatim:\\005"\nwhile sleep 0.01; do printf "\\002verbatim
 wait' | head -n 40
     printf 'stop a\nnew 1 a y\n'
 } >given
-rm -f sheet sheet.alt
-"$tmhost" create sheet
+fresh
 "$tmhost" live sheet <given >replies 2>&1
 compare 'one that never reads' "$(sort -u replies)" \
     "$(printf 'answered 1\nasked\nbanner a\nended a SendFault lost 1\nended a Stopped lost 0\nfield 1\nfield 2\nok')"
@@ -358,8 +353,8 @@ compare 'answers that came together, on a full disk, shown' "$(answer show sheet
     seq 64 | sed 's/.*/eval &/'
     echo 'wait 1'
 } >given
-rm -f sheet sheet.alt lives
-"$tmhost" create sheet
+rm -f lives
+fresh
 compare '64 sessions that stall' "$("$tmhost" live sheet <given 2>&1 | sort)" \
     "$({ seq 64 | sed 's/.*/ok/'; seq 64 | sed 's/.*/field &/'; seq 64 | sed 's/.*/asked/'; seq 64 | sed 's/.*/ended s& Stalled lost 1/'; } | sort)"
 compare '64 sessions that stall, shown' "$(answer show sheet </dev/null)" "$(ending "$(seq 64 -1 1 | sed 's/.*/#& s&\\n> x\\n? Stalled\\n/' | tr -d '\n')" 0)"
@@ -401,7 +396,7 @@ looping() {
 interrupts() {
     rm -f looping
     talk
-    say 'session a plain python3 loops.py keeps\nsession b plain python3 loops.py ends\nnew 0 a loop\nnew 1 b loop\nnew 2 a x\ninterrupt a\ninterrupt c\n'
+    say 'session a plain python3 -I -S loops.py keeps\nsession b plain python3 -I -S loops.py ends\nnew 0 a loop\nnew 1 b loop\nnew 2 a x\ninterrupt a\ninterrupt c\n'
     hears "nothing to interrupt$1" 'ok\nok\nfield 1\nfield 2\nfield 3\nidle a\nrefused 1 NoSession\n'
     say 'eval 1\n'
     hears "a line that loops$1" 'asked\nbanner a\n'
@@ -456,8 +451,8 @@ for n in $(seq 100); do [ -e seen ] && break; sleep 0.05; done
 if [ -e seen ]; then printf '\002verbatim:seen\005'; else printf '\002verbatim:late\005'; fi
 read -r l
 END_OF_CHILD
-rm -f seen sheet sheet.alt
-"$tmhost" create sheet
+rm -f seen
+fresh
 printf 'session a plain sh echo.sh\nsession b plain sh sees.sh\nnew 0 a x\nnew 1 b y\neval 1\neval 2\nwait\n' >given
 timeout 10 "$tmhost" run sheet <given >talk.told 2>errors &
 host=$!
@@ -467,7 +462,7 @@ for n in $(seq 60); do
 done
 grep -q '^answered 1$' talk.told && : >seen
 wait $host
-compare 'a run tells of the first session at once' "$? $(tail -n 2 talk.told | tr '\n' ' ')$(cat errors)" '0 answered 1 answered 2 '
+compare 'a run tells of the first session at once' "$? $(tail -n 2 talk.told | tr '\n' ' ')$(text_of errors)" '0 answered 1 answered 2 '
 compare 'a run tells of the first session at once, shown' "$(answer show sheet </dev/null)" "$(ending '#1 a\n> x\nx\n#2 b\n> y\nseen\n' 0)"
 
 # What lines that are taken together give is there before the next line is taken: this interpreter begins when it has read it.
@@ -483,8 +478,7 @@ printf '\002verbatim:%s\005' "$said"
 read -r l
 END_OF_CHILD
 for form in '' --strict; do
-    rm -f sheet sheet.alt
-    "$tmhost" create sheet
+    fresh
     printf 'session a plain sh reads.sh\nnew 0 a x\neval 1\nnew 1 a y\nnew 2 a z\nwait\n' >given
     timeout 10 "$tmhost" run $form sheet <given >talk.told 2>errors
     compare "a run tells of lines that are taken together at once $form" "$? $(cat talk.told errors)" \

@@ -6,7 +6,12 @@ programs='create run:--strict run:--timeout:5 run live eval eval:--timeout:5 sho
 
 # A program as words: its parts stand between colons.
 parts() {
-    echo "$1" | tr ':' ' '
+    rest=$1
+    while [ "$rest" != "${rest#*:}" ]; do
+        echo "${rest%%:*}"
+        rest=${rest#*:}
+    done
+    echo "$rest"
 }
 
 # A worksheet of two fields in its first file, whose second file has a worksheet of an earlier day: NAME.
@@ -15,10 +20,10 @@ laid() {
     "$tmhost" create w
     printf 'session a plain true\nnew 0 a one\ncheckpoint\ncheckpoint\nnew 1 a two\n' >given
     "$tmhost" run w <given >text
-    { bytes w; bytes w.alt; } >laid
+    laid=$(sums w w.alt)
 }
 as_laid() {
-    compare "$1, its files" "$(bytes w; bytes w.alt; ls w.alt.alt saved saved.alt 2>/dev/null)" "$(cat laid)"
+    compare "$1, its files" "$(sums w w.alt; there w.alt.alt saved saved.alt)" "$laid"
 }
 
 # Alone.
@@ -50,7 +55,7 @@ for program in create run live show; do
     words "$program at a second file that is missing" 1 "$second" $(parts $program) w.alt
 done
 words 'rescue to a second file that is missing' 1 "$second" rescue w w.alt
-compare 'it is still missing' "$(ls w.alt w.alt.alt 2>/dev/null)" ''
+compare 'it is still missing' "$(there w.alt w.alt.alt)" ''
 words 'the worksheet itself' 0 '#1 a\n> one\n?\n#2 a\n> two\n?\n' show w
 
 # What stands at the path without the ending is no first file: NAME, after it was made at `other`.
@@ -92,7 +97,7 @@ words 'create beside a file that may not be read' 1 'fault 32 Disk\n' create oth
 chmod 600 other
 words 'create beside it when it may be read' 1 "$second" create other.alt
 rm other
-compare 'none was made' "$(ls other.alt other.alt.alt 2>/dev/null)" ''
+compare 'none was made' "$(there other.alt other.alt.alt)" ''
 
 # Begins a talk with a `live` that has this worksheet.
 has() {
@@ -110,7 +115,7 @@ had() {
     exec 4<&-
     wait $host
     status=$?
-    compare "$1, at the end" "$rest$(cat talk.errors; echo "status $status")" 'status 0'
+    compare "$1, at the end" "$rest$(text_of talk.errors; echo "status $status")" 'status 0'
     words "$1, shown" 0 "$3" show "$2"
 }
 
@@ -151,15 +156,15 @@ rm other.alt other.alt.alt
 
 # Somebody else has a lock on the second file, which others may have too (SH) or not (EX): LOCK WORDS.
 cat >lock.py <<'END_OF_LOCK'
-import fcntl, subprocess, sys
+import fcntl, os, sys
 with open("w.alt", "r+b") as file:
     fcntl.flock(file, getattr(fcntl, "LOCK_" + sys.argv[1]) | fcntl.LOCK_NB)
-    sys.exit(subprocess.run(sys.argv[2:], close_fds=True).returncode)
+    sys.exit(os.spawnvp(os.P_WAIT, sys.argv[2], sys.argv[2:]))
 END_OF_LOCK
 locked() {
     name=$1 lock=$2 want=$(ending "$4" "$3")
     shift 4
-    compare "$name" "$(python3 lock.py "$lock" "$tmhost" "$@" 2>&1 </dev/null; echo "status $?")" "$want"
+    compare "$name" "$(python3 -I -S lock.py "$lock" "$tmhost" "$@" 2>&1 </dev/null; echo "status $?")" "$want"
 }
 laid
 for program in run live eval check:--accept; do
@@ -175,9 +180,9 @@ as_laid 'a second file that another has'
 has w
 say 'set 1 uno\n'
 hears 'one whose second file is tried' 'ok\n'
-compare 'the second file of one that has the worksheet' "$(python3 lock.py SH true 2>&1 | grep -c BlockingIOError)" 1
+compare 'the second file of one that has the worksheet' "$(python3 -I -S lock.py SH true 2>&1 | grep -c BlockingIOError)" 1
 had 'one whose second file is tried' w '#1 a\n> uno\n?\n#2 a\n> two\n?\n'
-compare 'the second file when nobody has it' "$(python3 lock.py EX true; echo "status $?")" 'status 0'
+compare 'the second file when nobody has it' "$(python3 -I -S lock.py EX true; echo "status $?")" 'status 0'
 
 # A second file that is too long: what opens a worksheet to write refuses it, so nothing is acknowledged that can't be opened; others read
 # the first one.
@@ -191,6 +196,6 @@ truncate -s 2147483648 w.alt
 printf 'checkpoint\nnew 2 a three\n' >given
 compare 'a second file that is as long as it may be' "$(answer run w <given)" "$(ending 'ok\nfield 3\n' 0)"
 words 'it is shown' 0 '#1 a\n> one\n?\n#2 a\n> two\n?\n#3 a\n> three\n?\n' show w
-rm -f w w.alt saved saved.alt laid lock.py
+rm -f w w.alt saved saved.alt lock.py
 
 counted pairs

@@ -20,9 +20,9 @@ lay() {
 
 # A case over that file, after which its bytes are as before: NAME STATUS TEXT WORDS.
 past() {
-    cp area given
+    before=$(sums area)
     words "$@"
-    compare "$1, kept" "$(bytes area)$(ls area.alt 2>/dev/null)" "$(bytes given)"
+    compare "$1, kept" "$(sums area area.alt)" "$before"
 }
 
 # The worksheet after so many changes, shown, and in a new worksheet: NAME N SHEET.
@@ -39,7 +39,7 @@ none() {
     past "$1, shown" 1 "$3" show --at "$2" area
     past "$1, exported" 1 "$3" export html --at "$2" area
     past "$1, restored" 1 "$3" restore area "$2" saved
-    compare "$1, made" "$(ls saved saved.alt 2>/dev/null)" ''
+    compare "$1, made" "$(there saved saved.alt)" ''
 }
 
 # Each kind of change once, with its number.
@@ -93,7 +93,7 @@ rm area
 words 'a missing one' 1 'fault 32 Disk\n' history area
 words 'a missing one, shown' 1 'fault 32 Disk\n' show --at 0 area
 words 'a missing one, restored' 1 'fault 32 Disk\n' restore area 0 saved
-compare 'a missing one, made' "$(ls saved saved.alt 2>/dev/null)" ''
+compare 'a missing one, made' "$(there saved saved.alt)" ''
 
 # Words that name no number.
 lay "$header$session\000"
@@ -110,7 +110,7 @@ past 'a new one that is there' 1 'fault 34 NotEmpty\n' restore area 1 saved
 compare 'what it is then' "$(cat saved)" here
 rm saved
 "$tmhost" history area >/dev/full 2>errors
-compare 'a full output' "$? $(cat errors)" '1 fault 42 Output'
+compare 'a full output' "$? $(text_of errors)" '1 fault 42 Output'
 
 # What a run leaves, and after it a checkpoint: the past begins with what makes the worksheet again.
 script 'a run' 'session a plain sh echo.sh\nnew 0 a one\neval 1\nwait\nset 1 two\neval 1\nwait\nnew 1 a three\nremove 2\n' \

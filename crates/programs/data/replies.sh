@@ -52,11 +52,6 @@ script 'empty names and texts' \
     'refused 1 NoSession\nrefused 1 NoSession\nrefused 6 BadWords\nrefused 6 BadWords\nrefused 5 BadName\nrefused 6 BadWords\nok\nfield 1\nfield 2\nfield 3\nrefused 7 BadInput\nrefused 1 NoSession\nok\nok\nrefused 2 NoField\nrefused 2 NoField\nrefused 2 NoField\nasked\nended a StartRefused lost 1\n#3 a\n>  x\n?\n#2 a\n> \n?\n#1 a\n> \n?\n' \
     '#3 a\n>  x\n?\n#2 a\n> \n?\n#1 a\n> \n?\n'
 
-# The same lines over files and over memory.
-both() {
-    script "$1" "$2" "$3" "$4"
-    memory "$1 in memory" "$2" "$3"
-}
 both 'a removed number is not given out again' 'session a plain p\nnew 0 a x\nremove 1\nnew 0 a y\nmove 2 2\nnew 1 a z\n' \
     'ok\nfield 1\nok\nfield 2\nrefused 8 SamePlace\nrefused 2 NoField\n' '#2 a\n> y\n?\n'
 both 'bad lines by number' 'foo\n\n# x\nremove 01\nsession a/b plain p\nsession a plain' \
@@ -138,7 +133,7 @@ area 'a block in an output' "$sheet_front$fields$block"'\000' 0 '#1 a\n> x\n{pro
     printf "$sheet_front$fields"'R\000\000\074\074\007\000\000\000\001\000\002> \002verbatim:'
     for i in $(seq 700); do printf 'a\n\002latex:b\002prompt#c\005d\005'; done
     printf '\005\000'
-} >given
-shows 'an output of 1,400 texts and blocks' 0 "#1 a\n> x\n$(for i in $(seq 700); do printf '%s' 'a\n{latex:b{prompt#c}d}'; done)\n#2 a\n> y\n?\n#3 a\n> z\n?\n" <given
+} >area
+shows 'an output of 1,400 texts and blocks' 0 "#1 a\n> x\n$(for i in $(seq 700); do printf '%s' 'a\n{latex:b{prompt#c}d}'; done)\n#2 a\n> y\n?\n#3 a\n> z\n?\n"
 
 counted replies

@@ -8,28 +8,27 @@ answered='R\000\000\000\025\007\000\000\000\001\000\002> \002verbatim:A\005'
 remove='R\000\000\000\005\004\000\000\000\001'
 front=$header$session$new$clear
 
-# A case of `rescue`: NAME LINE SHEET, over the file `given`. It tells this line, and the new worksheet is shown so; the old one keeps its
+# A case of `rescue`: NAME LINE SHEET, over the file `area`. It tells this line, and the new worksheet is shown so; the old one keeps its
 # bytes, and gets no second file.
 rescues() {
-    rm -f area area.alt saved saved.alt
-    cp given area
+    rm -f area.alt saved saved.alt
+    before=$(sums area)
     compare "$1" "$(answer rescue area saved </dev/null)" "$(ending "$2" 0)"
     compare "$1, shown" "$(answer show saved </dev/null)" "$(ending "$3" 0)"
-    compare "$1, kept" "$(bytes area)$(ls area.alt 2>/dev/null)" "$(bytes given)"
+    compare "$1, kept" "$(sums area area.alt)" "$before"
 }
 
 # The same of bytes that are typed in: NAME BYTES LINE SHEET.
 rescued() {
-    printf "$2" >given
+    printf "$2" >area
     rescues "$1" "$3" "$4"
 }
 
-# A case of `rescue` that makes nothing: NAME LINE, over the file `given`.
+# A case of `rescue` that makes nothing: NAME LINE, over the file `area`.
 lost() {
-    rm -f area area.alt saved saved.alt
-    cp given area
+    rm -f area.alt saved saved.alt
     compare "$1" "$(answer rescue area saved </dev/null)" "$(ending "$2" 1)"
-    compare "$1, made" "$(ls saved saved.alt 2>/dev/null)" ''
+    compare "$1, made" "$(there saved saved.alt)" ''
 }
 
 # The worked example of docs/trust/FORMAT.md, and each of its fronts. Its gates are at 10, 24, 39, 49 and 75.
@@ -38,7 +37,7 @@ compare 'its first file' "$(bytes saved)" 544d575348454554014200
 compare 'its second file' "$(bytes saved.alt)" 544d57534845455401005200000009010161000100027368520000000a020000000001610001785200000015070000000100023e2002766572626174696d3a410500
 printf "$front$answered"'\000' >example
 for length in $(seq 0 75); do
-    head -c "$length" example >given
+    head -c "$length" example >area
     if [ "$length" -le 10 ]; then
         lost "the first $length bytes of the example" 'fault 31 NotASheet\n'
     elif [ "$length" -le 24 ]; then
@@ -80,39 +79,39 @@ rescued 'a line that was lost' "$front"'R\000\000\000\006\010\000\000\000\001\00
 rm -f area area.alt saved saved.alt
 printf 'TMWSHEET\001B\000' >area
 printf 'TMWSHEET\001\000'"$session$new"'R\000\000' >area.alt
-cp area.alt given
+before=$(sums area.alt)
 compare 'damage in the second file' "$(answer rescue area saved </dev/null)" "$(ending 'kept 2, damaged at 39\n' 0)"
 compare 'what is kept of it' "$(answer show saved </dev/null)" "$(ending '#1 a\n> x\n?\n' 0)"
-compare 'the second file itself' "$(bytes area.alt)" "$(bytes given)"
+compare 'the second file itself' "$(sums area.alt)" "$before"
 rm area.alt saved saved.alt
 compare 'a second file that is missing' "$(answer rescue area saved </dev/null)" "$(ending 'fault 32 Disk\n' 1)"
 printf 'TMWSHEET' >area.alt
 compare 'a second file without a header' "$(answer rescue area saved </dev/null)" "$(ending 'fault 31 NotASheet\n' 1)"
-compare 'what is made of them' "$(ls saved saved.alt 2>/dev/null)" ''
+compare 'what is made of them' "$(there saved saved.alt)" ''
 
 # What is no worksheet, and what stands where the new one should.
-printf 'hello, world' >given
+printf 'hello, world' >area
 lost 'no header' 'fault 31 NotASheet\n'
-printf '' >given
+printf '' >area
 lost 'an empty file' 'fault 31 NotASheet\n'
-printf 'TMWSHEET\002A\000' >given
+printf 'TMWSHEET\002A\000' >area
 lost 'another version' 'fault 31 NotASheet\n'
 rm -f area
 words 'a file that is missing' 1 'fault 32 Disk\n' rescue area saved
-compare 'what is made of it' "$(ls area area.alt saved saved.alt 2>/dev/null)" ''
+compare 'what is made of it' "$(there area area.alt saved saved.alt)" ''
 printf "$header$session"'\000' >area
 echo here >saved
 words 'a new one that is there' 1 'fault 34 NotEmpty\n' rescue area saved
-compare 'what it is then' "$(cat saved)$(ls saved.alt 2>/dev/null)" 'here'
+compare 'what it is then' "$(text_of saved)$(there saved.alt)" 'here'
 rm saved
 echo here >saved.alt
 words 'a second file of it that is there' 1 'fault 34 NotEmpty\n' rescue area saved
-compare 'what that is then' "$(cat saved.alt)$(ls saved 2>/dev/null)" 'here'
+compare 'what that is then' "$(text_of saved.alt)$(there saved)" 'here'
 rm saved.alt
 words 'the worksheet itself' 1 'fault 34 NotEmpty\n' rescue area area
 words 'a new one in a folder that is missing' 1 'fault 32 Disk\n' rescue area missing/saved
 "$tmhost" rescue area saved >/dev/full 2>errors
-compare 'a full output' "$? $(cat errors)" '1 fault 42 Output'
+compare 'a full output' "$? $(text_of errors)" '1 fault 42 Output'
 compare 'what is written all the same' "$(answer show saved </dev/null)" "$(ending '' 0)"
 rm -f saved saved.alt
 compare 'a new one on a full disk' "$(limited 0 rescue area saved </dev/null)" "$(ending 'fault 32 Disk\n' 1)"

@@ -4,8 +4,6 @@ on its screen at the end. Where HOW is `typed` its standard input is that termin
 is the program's."""
 
 import os
-import re
-import subprocess
 import sys
 
 
@@ -17,9 +15,10 @@ def sent_to_terminal(output, words, is_typed):
     ours, terminal = os.openpty()
     if is_typed:
         os.write(ours, END_OF_INPUT)
-    with os.fdopen(terminal, "wb") as errors, open(os.devnull if output == "-" else output, "wb") as file:
-        stdin = errors if is_typed else subprocess.DEVNULL
-        child = subprocess.Popen(words, stdin=stdin, stdout=errors if output == "-" else file, stderr=errors)
+    with open(os.devnull, "rb") as nothing, open(os.devnull if output == "-" else output, "wb") as file:
+        streams = [terminal if is_typed else nothing.fileno(), terminal if output == "-" else file.fileno(), terminal]
+        child = os.posix_spawnp(words[0], words, os.environ, file_actions=[(os.POSIX_SPAWN_DUP2, stream, at) for at, stream in enumerate(streams)])
+    os.close(terminal)
     sent = b""
     while True:
         try:
@@ -29,11 +28,13 @@ def sent_to_terminal(output, words, is_typed):
         if not piece:
             break
         sent += piece
-    return sent, child.wait()
+    return sent, os.waitstatus_to_exitcode(os.waitpid(child, 0)[1])
 
 
 def left_on_screen(sent):
     """The lines of a screen that was sent this: text, carriage returns, new lines, and what clears the rest of a line."""
+    import re
+
     lines, column = [""], 0
     for part in re.findall(r"\r|\n|\x1b\[K|.", sent):
         if part == "\r":

@@ -15,7 +15,7 @@ step() {
 run() {
     "$tmhost" "$@" 2>errors
     status=$?
-    cat errors
+    [ ! -s errors ] || cat errors
     [ $status = 0 ] || echo "status $status"
 }
 
@@ -365,30 +365,57 @@ sh journals.sh "$tmhost"
 
 step cases
 . ./desk.sh
+# New worksheets of cases are typed in: they are as `create` makes them.
+mkdir typed
+(cd typed && fresh)
+run create made
+cmp made typed/sheet
+cmp made.alt typed/sheet.alt
+rm -r typed made made.alt
 compare 'a case that must differ' yes no
 counted 'cases that must differ'
+# The steps above go over the disk. The cases go over memory, where there is room for them and programs can be started from there: a disk that
+# is busy takes longer for what they write than they do.
+room=$PWD
+if memory=$(mktemp -d /dev/shm/cases.XXXXXX 2>/dev/null); then
+    trap 'rm -rf "$memory"' EXIT
+    printf '#!/bin/sh\n' >"$memory/starts"
+    chmod 700 "$memory/starts"
+    if "$memory/starts" 2>/dev/null && [ "$(df -Pk "$memory" | awk 'END { print $4 }')" -gt 1000000 ]; then room=$memory; fi
+fi
+
 # Matters whose cases share files are in one chain. A chain has a copy of this folder for itself and goes beside the others, since many cases
 # wait for a second or two. What it prints is printed behind what those before it here printed, and stands in its folder's files `told` and
 # `failed` until then: no case writes files of these names.
 chain() {
-    mkdir "chain.$1"
-    for file in *; do
-        case $file in chain.*) ;; *) cp -a "$file" "chain.$1" ;; esac
-    done
+    folder=$room/chain.$1
+    mkdir "$folder"
+    find . -mindepth 1 -maxdepth 1 ! -name 'chain.*' -exec cp -a -t "$folder" {} +
     (
-        cd "chain.$1" || exit
+        cd "$folder" || exit
         for matter in "$@"; do
             . "./$matter.sh"
         done
-    ) >"chain.$1/told" 2>"chain.$1/failed" &
+    ) >"$folder/told" 2>"$folder/failed" &
 }
 
 case $tmhost in /*) ;; *) tmhost=$PWD/$tmhost ;; esac
-chain areas blocks rescues past exports command_lines pairs
-chain children completions replies limits strict live json together
 chain eval
-chain check accepts progress
+chain check_times
+chain check_together
+chain strict live
+chain accepts progress
+chain children completions
+chain json together
+chain check
+chain check_new
+chain replies limits
 chain files
+chain areas blocks rescues
+chain past exports
+chain command_lines pairs
 wait
-cat chain.areas/told chain.children/told chain.eval/told chain.check/told chain.files/told
-cat chain.*/failed >&2
+for first in areas past command_lines children replies strict json eval check check_new check_times check_together accepts files; do
+    cat "$room/chain.$first/told"
+done
+cat "$room"/chain.*/failed >&2

@@ -1,20 +1,5 @@
 # Strict runs: `run --strict` stops after the first line that is bad or refused, or by which lines or requests were lost.
 
-# A case of `run --strict`: NAME STATUS TEXT SHEET. A script, which is the input here, over a new worksheet writes the text, its errors
-# after it, and then the worksheet is shown so.
-strictly() {
-    rm -f sheet sheet.alt
-    "$tmhost" create sheet
-    compare "$1" "$(answer run --strict sheet)" "$(ending "$3" "$2")"
-    compare "$1, shown" "$(answer show sheet </dev/null)" "$(ending "$4" 0)"
-}
-
-# The same of a script that is typed in: NAME SCRIPT STATUS TEXT SHEET.
-strict() {
-    printf "$2" >given
-    strictly "$1" "$3" "$4" "$5" <given
-}
-
 # No line goes wrong: the text is that of `run`.
 strict 'an empty script' '' 0 '' ''
 strict 'lines that say nothing' '# a remark\n\n\r\nprint\n' 0 '' ''
@@ -81,8 +66,7 @@ strict 'a request that is lost' 'session a tab sh p.sh\nnew 0 a x\ncomplete 1 1\
 # The same within a limit of time, whose lines are those of `live`: NAME SCRIPT STATUS TEXT SHEET.
 by_lines() {
     printf "$2" >given
-    rm -f sheet sheet.alt
-    "$tmhost" create sheet
+    fresh
     compare "$1, within a time" "$(answer run --strict --timeout 60 sheet <given)" "$(ending "$4" "$3")"
     compare "$1, within a time, shown" "$(answer show sheet </dev/null)" "$(ending "$5" 0)"
 }
@@ -113,13 +97,11 @@ printf '\002verbatim:\005'
 read -r line
 exec sleep 60
 END_OF_CHILD
-rm -f sheet sheet.alt
-"$tmhost" create sheet
+fresh
 printf 'session a plain sh q.sh\nnew 0 a x\neval 1\nwait\nset 1 y\n' >given
 compare 'a time that is over' "$(answer run --strict --timeout 1 sheet <given)" \
     "$(ending 'ok\nfield 1\nasked\nbanner a\ninterrupted a\nstopped at line 4\n' 3)"
-rm -f sheet sheet.alt
-"$tmhost" create sheet
+fresh
 printf 'session a plain p\nfoo\nnew 0 a x\n' >given
 cat >wanted <<'END_OF_JSON'
 {"format":1,"program":"tmhost","protocol":2,"type":"hello","version":"0.1.0"}
@@ -132,17 +114,16 @@ END_OF_JSON
 compare 'a bad line, as JSON' "$(answer run --strict --json sheet <given)" "$(cat wanted)"
 
 # Words, faults, and what is reported where standard error takes nothing.
-rm -f sheet sheet.alt
-"$tmhost" create sheet
+fresh
 printf 'foo\n' >given
 compare 'the flag behind the path' "$(answer run sheet --strict <given)" "$(printf 'bad line 1\nstopped at line 1\nstatus 3')"
 "$tmhost" run --strict sheet <given >text 2>/dev/full
 compare 'errors that are full' "$? $(cat text)" '3 bad line 1'
 "$tmhost" run --strict sheet <given >/dev/full 2>errors
-compare 'an output that is full' "$? $(cat errors)" '1 fault 42 Output'
+compare 'an output that is full' "$? $(text_of errors)" '1 fault 42 Output'
 words 'no worksheet to run strictly' 1 'fault 32 Disk\n' run --strict nowhere
 "$tmhost" run --strict sheet <&- >text 2>errors
-compare 'no input' "$? $(cat text errors)" '1 fault 40 Input'
+compare 'no input' "$? $(text_of text; text_of errors)" '1 fault 40 Input'
 rm -f given q.sh sent lives
 
 counted strict
