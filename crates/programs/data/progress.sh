@@ -55,6 +55,8 @@ compare 'a fault on a terminal' "$(python3 -I -S screen.py sent /dev/full "$tmho
     "$(printf '\r1 of 2\033[K\r\033[K\r\033[Kfault 42 Output\r\n'; echo 'status 1')"
 compare 'a fault on a screen' "$(python3 -I -S screen.py left /dev/full "$tmhost" check sheet; echo "status $?")" "$(printf 'fault 42 Output\n'; echo 'status 1')"
 sends 'no worksheet, on a terminal' 1 'fault 32 Disk\r\ntmhost: nowhere: No such file or directory (os error 2)\r\n' check nowhere
+sends 'two that are none among several, on a terminal' 1 \
+    'fault 32 Disk\r\n\r1 of 2\033[K\r\033[K\r2 of 2, 1 differs\033[K\r\033[Kfault 32 Disk\r\ntmhost: nowhere: No such file or directory (os error 2)\r\ntmhost: .: it is no plain file\r\n' check nowhere sheet .
 
 # No other program shows it.
 sends 'show on a terminal' 0 '' show sheet
