@@ -72,6 +72,8 @@ EXPANDED: set[Key] = {
 # Sentences above definitions that lean on what their file has before them, or say more than the definition: words as they are, and those that
 # the page has for them. A sentence without such words stands as it is.
 REWORDED: dict[Key, tuple[str, str]] = {
+    ("theorem.Acts", "PutsAnswer"): ("it puts", "the op puts"),
+    ("theorem.Acts", "AreAnswers"): ("each of them does", "each of these ops puts an answer into a field"),
     ("host_laws.Laws", "may_want"): ("refused so", "refused for lack of memory"),
     ("session_engine.Host", "number_in"): ("its number", "the number of the life of a session that a host runs"),
     ("recovery.Laws", "OneSheet"): ("and is that", "An image is that"),
@@ -269,11 +271,11 @@ class Page:
     # The whole.
 
     def sections(self) -> list[str]:
-        """The definitions under their headings, and then the types."""
+        """The definitions under their headings, those of the first modules first, and then the types."""
         left = list(self.printed.values())
         parts = []
         for title, modules in SECTIONS:
-            taken = [d for d in left if (d.key[0] + ".").startswith(modules)]
+            taken = [d for module in modules for d in left if (d.key[0] + ".").startswith(module)]
             left = [d for d in left if d not in taken]
             parts += [f"## {title} ({len(taken)})\n", *map(self.entry, taken)]
         if others := [d for d in left if not d.is_type]:
