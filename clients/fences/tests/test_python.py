@@ -1,10 +1,25 @@
 """Which Python runs a command."""
+import os
+import subprocess
 import sys
+import tempfile
 import unittest
 from typing import List, Tuple
 from unittest import mock
 
 from tmhost_fences import python
+
+HERE = os.path.dirname(os.path.realpath(__file__))
+START = """
+import os, signal, sys
+print("begun", sys.argv[1:], flush=True)
+signal.signal(signal.SIGINT, lambda *_: os._exit(130))
+sys.path.insert(0, {!r})
+from tmhost_fences import python
+python.DEBIANS = {!r}
+python.choose(["no_such_module", "nor_this_one"])
+print("went on", flush=True)
+"""
 
 
 class Choice(unittest.TestCase):
@@ -27,6 +42,19 @@ class Choice(unittest.TestCase):
             self.chosen(2, -1, least=(9, 9))
         with self.assertRaises(SystemExit):  # `execv` comes back here alone
             self.chosen(2, 0, least=(9, 9))
+
+    def test_an_interrupt_while_the_other_one_starts(self) -> None:
+        """It waits until that one reads its modules, and isn't held back any more then."""
+        with tempfile.TemporaryDirectory() as folder:
+            other, script = os.path.join(folder, "other"), os.path.join(folder, "script")
+            with open(other, "w", encoding="utf-8") as file:
+                # It counts the modules as Debian's does, and is interrupted before it is a Python.
+                file.write(f'#!/bin/sh\n[ "$1" = -c ] && exit 102\nkill -INT $$\nshift\nexec {sys.executable} -B "$@" again\n')
+            os.chmod(other, 0o755)
+            with open(script, "w", encoding="utf-8") as file:
+                file.write(START.format(os.path.dirname(HERE), other))
+            done = subprocess.run([sys.executable, "-B", script], capture_output=True, text=True, timeout=60)
+        self.assertEqual((done.returncode, done.stdout, done.stderr), (130, "begun []\nbegun ['again']\n", ""))
 
     def test_how_many_there_are(self) -> None:
         asked: List[List[str]] = [["json", "no_such_module"], [], ["json", "os"]]

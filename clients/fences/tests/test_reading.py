@@ -4,7 +4,7 @@ import shutil
 import subprocess
 import tempfile
 import unittest
-from typing import List, Tuple
+from typing import List, Optional, Tuple
 
 from tmhost_fences.blocks import blocks_of
 from tmhost_fences.fields import LINE_END, groups, language_in
@@ -47,6 +47,10 @@ class Infos(unittest.TestCase):
         for text, code, wanted in asked:
             self.assertEqual(is_evaluated(info_of(text).options, code), wanted, (text, code))
 
+    def test_what_says_that_it_is_text(self) -> None:
+        for text, wanted in (("py {literal}", False), ("{.py .literal}", False), ("py {whole, literal}", False), ("py literal", True), ("{py literal}", True), ("py {eval=FALSE}", False), ("py", True)):
+            self.assertEqual(blocks_of([f"~~~ {text}", "~~~"])[0].is_evaluated, wanted, text)
+
     def test_what_is_to_be_seen(self) -> None:
         """Options of knitr and Quarto that are obeyed, and the others, which are ignored. Other words with values are none of them."""
         asked: List[Tuple[str, List[str], bool, bool, List[str]]] = [
@@ -61,7 +65,7 @@ class Infos(unittest.TestCase):
             self.assertEqual((is_hidden(block.options), is_without_text(block.options), block.ignored), (hidden, textless, others), (text, code))
 
     def test_which_errors_are_wanted(self) -> None:
-        asked = [("{r, error=TRUE}", [], True), ("{r}", ["#| error: true"], True), ("{r, error=F}", [], False), ("py {error=no}", [], False), ("{r, error=x}", [], None), ("{r}", [], None)]
+        asked: List[Tuple[str, List[str], Optional[bool]]] = [("{r, error=TRUE}", [], True), ("{r}", ["#| error: true"], True), ("{r, error=F}", [], False), ("py {error=no}", [], False), ("{r, error=x}", [], None), ("{r}", [], None)]
         for text, code, wanted in asked:
             block = blocks_of([f"~~~ {text}", *code, "~~~"])[0]
             self.assertEqual((wants_errors(block.options), block.ignored), (wanted, ["error"] * (wanted is None and "error" in text)), (text, code))

@@ -3,7 +3,7 @@ import dataclasses
 import re
 from typing import Any, Dict, List, Sequence, Tuple
 
-from .info import Info, ignored, info_of, is_evaluated, options_in
+from .info import LITERAL, Info, ignored, info_of, is_evaluated, options_in
 from .troubles import needed
 
 LINE = re.compile(r"[^\r\n]*(?:\r\n|\r|\n)|[^\r\n]+\Z")
@@ -35,7 +35,7 @@ class Block:
 
     @property
     def is_evaluated(self) -> bool:
-        return is_evaluated(self.info.options, self.content)
+        return is_evaluated(self.info.options, self.content) and not self.info.flags([LITERAL])
 
     @property
     def options(self) -> Dict[str, str]:

@@ -12,6 +12,9 @@ NO = ("false", "f", "no", "never")
 YES = ("true", "t", "yes")
 HIDDEN = ("hide", *NO)  # values of `results`
 NOTEBOOK = "ipynb"
+LITERAL = "literal"  # of a fence whose code is a text
+# Options that change what is done, each with the values that say what is done in any case, or what can be.
+OBEYED: Dict[str, Sequence[str]] = {"eval": NO + YES, "include": NO + YES, "output": NO + YES, "results": (*HIDDEN, "markup"), "echo": YES, "error": NO + YES}
 
 
 @dataclasses.dataclass(frozen=True)
@@ -77,5 +80,4 @@ def wants_errors(options: Dict[str, str]) -> Optional[bool]:
 
 def ignored(options: Dict[str, str]) -> List[str]:
     """The options that say something else than what is done. A label says nothing that could be."""
-    obeyed: Dict[str, Sequence[str]] = {"eval": NO + YES, "include": NO + YES, "output": NO + YES, "results": (*HIDDEN, "markup"), "echo": YES, "error": NO + YES}
-    return [name for name, value in options.items() if name not in ("active", "label") and value.lower() not in obeyed.get(name, ())]
+    return [name for name, value in options.items() if name not in ("active", "label") and value.lower() not in OBEYED.get(name, ())]

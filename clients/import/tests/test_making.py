@@ -10,6 +10,8 @@ import sys
 import tempfile
 import time
 
+from tested import heed_interrupts
+
 from .support import COMMAND, PROGRAM, ROOT, Case, Done, code, needs_program, notebook
 
 ECHO = f"sh {ROOT}/examples/echo.sh"
@@ -98,7 +100,7 @@ class Making(Case):
         self.not_made("reported something else", **self.before(SILENT))
 
     def test_programs_that_are_none(self) -> None:
-        self.not_made("can't be started", TMHOST="/nowhere/tmhost")
+        self.not_made("TMHOST names no program: /nowhere/tmhost", TMHOST="/nowhere/tmhost")
         self.not_made("tmhost create ended with status 1", TMHOST="/bin/false")
 
     def test_where_no_program_is(self) -> None:
@@ -176,6 +178,29 @@ class Words(Case):
             self.assertEqual(self.status("--session", f"python={words}", "new").status, 2, words)
         self.assertEqual(os.listdir(self.folder), [])
 
+    def test_a_document_without_a_name_for_its_worksheet(self) -> None:
+        """It is the document that is there, or was meant, and no new worksheet."""
+        self.write("a b.ipynb", notebook(code("x")))
+        for name, shown in (("a b.ipynb", "'a b.ipynb'"), ("nope.md", "nope.md")):
+            done = self.status(name)
+            self.assertEqual((done.status, done.errors.splitlines()[-1]), (2, f"tmhost-import: error: name the new worksheet, too: tmhost-import {shown} NEW"))
+        self.assertEqual(os.listdir(self.folder), ["a b.ipynb"])
+
+    @needs_program
+    def test_the_version(self) -> None:
+        done = self.status("--version")
+        self.assertEqual((done.status, done.out), (0, f"tmhost-import: {self.host('--version')}"), done.errors)
+        done = self.do("--version", TMHOST="/bin/false")
+        self.assertEqual((done.status, done.out, done.errors), (1, "", "tmhost-import: /bin/false --version ended with status 1\n"))
+
+    def test_an_interrupt_while_it_reads_its_modules(self) -> None:
+        """It ends in silence. A module that each imports sends the signal."""
+        self.write("argparse.py", "import os, signal, time\nos.kill(os.getpid(), signal.SIGINT)\ntime.sleep(60)\n")
+        for command in ("tmhost-import", "tmhost-prose"):
+            words = [os.path.join(os.path.dirname(COMMAND), command), "new"]
+            done = subprocess.run(words, capture_output=True, env={**os.environ, "PYTHONPATH": self.folder}, preexec_fn=heed_interrupts)
+            self.assertEqual((done.returncode, done.stdout, done.stderr), (130, b"", b""))
+
     def test_words_in_any_order(self) -> None:
         document = self.write("a.ipynb", notebook(code("x")))
         for words in ([document, "--script"], ["--script", document, "--split"], ["--script", "-"], ["--script"]):
@@ -204,8 +229,8 @@ class Words(Case):
             self.assertIn(" x\n", self.do("--script", self.write(name, text)).out)
 
     def test_documents_that_can_not_be_read(self) -> None:
-        for path, said in (("nowhere.md", "No such file"), ("/", "Is a directory")):
-            self.assertIn(f"it can't be read: {said}", self.status(path, "new").errors)
+        for path, said in (("nowhere.md", "No such file or directory"), ("/", "Is a directory")):
+            self.assertEqual(self.status(path, "new").errors, f"tmhost-import: '{path}' can't be read: {said}\n")
 
     def test_the_longest_document(self) -> None:
         document = notebook(code("x")).encode()

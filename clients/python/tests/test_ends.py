@@ -209,6 +209,11 @@ class Programs(Case):
     HELLO = """echo '{"format":1,"program":"tmhost","protocol":2,"type":"hello","version":"x"}'\n"""
     EMPTY = """read line; echo '{"fields":[],"line":1,"next":1,"sessions":[],"type":"sheet"}'\n"""
 
+    def executable(self, name: str) -> None:
+        with open(os.path.join(self.folder, name), "w", encoding="ascii") as file:
+            file.write("#!/bin/sh\n")
+        os.chmod(file.name, 0o755)
+
     def test_no_program(self) -> None:
         self.assertRaises(FileNotFoundError, Worksheet, self.path, program=os.path.join(self.folder, "none"))
         before = {name: os.environ.pop(name, None) for name in ("TMHOST", "PATH")}
@@ -217,6 +222,8 @@ class Programs(Case):
             with unittest.mock.patch("tmhost.program.own_program", return_value=None):
                 self.assertRaises(FileNotFoundError, find_program)
             os.environ["TMHOST"] = "here"
+            self.assertRaisesRegex(FileNotFoundError, "TMHOST names no program: here", find_program)
+            self.executable("here")
             self.assertEqual(find_program(), "here")
         finally:
             for name, value in before.items():

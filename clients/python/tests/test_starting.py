@@ -5,6 +5,7 @@ import shutil
 import subprocess
 import sys
 import tempfile
+import time
 import unittest
 from typing import Dict, Optional, Tuple
 from unittest import mock
@@ -48,7 +49,11 @@ class Program(unittest.TestCase):
         self.assertEqual(self.found(), script)
         other = self.put("bin", "tmhost")
         self.assertEqual(self.found(PATH=os.path.dirname(other)), other)
-        self.assertEqual(self.found(PATH=os.path.dirname(other), TMHOST="/named"), "/named")
+        named = self.put("named", "tmhost")
+        self.assertEqual(self.found(PATH=os.path.dirname(other), TMHOST=named), named)
+        self.assertEqual(self.found(PATH=os.path.dirname(named), TMHOST="tmhost"), "tmhost")
+        for missing in ("/nope/tmhost", "no-such-program", self.folder):
+            self.assertEqual(self.found(PATH=os.path.dirname(other), TMHOST=missing), f"TMHOST names no program: {missing}")
 
     def test_where_it_is_installed(self) -> None:
         self.assertEqual(self.found("share", "tmhost"), "there is no tmhost on PATH, and TMHOST names none")
@@ -99,22 +104,55 @@ class Sessions(unittest.TestCase):
         for words in ("sh mine.sh", "python3 -u mine.py", "gp --texmacs", "true", "./mine", "mine-2.0"):
             self.assertIsNone(self.doubt(words, words.split()[0]), words)
 
-    def test_why_an_adapter_ends(self) -> None:
-        """The last line that it says, where it ends so by itself; nothing but an adapter is started for that."""
+    def test_what_never_answers(self) -> None:
+        """It is certain of a name that PATH finds, or of the same file, and not of an adapter that goes by that name."""
+        with tempfile.TemporaryDirectory(prefix="tmhost-python-test.") as folder:
+            names = ("sh", "python3", "julia", "gp", "R")
+            for name in names:
+                self.put(os.path.join(folder, name), "")
+            os.mkdir(os.path.join(folder, "mine"))
+            self.put(os.path.join(folder, "mine", "gp"), "")
+            with mock.patch.dict(os.environ, PATH=folder):
+                for words in ("sh", "sh -i", "python3 -u", "julia -q", "R --vanilla --quiet", f"{folder}/gp"):
+                    said = starting.never_answers(words.split())
+                    self.assertIn("by itself has no blocks for its answers: the words tmhost-", said or "", words)
+                for words in ("", "sh mine.sh", "python3 -m mine", "gp --texmacs", f"{folder}/mine/gp", os.path.join(ROOT, "adapters", "gp"), "octave", "tmhost-gp"):
+                    self.assertIsNone(starting.never_answers(words.split()), words)
+            with mock.patch.dict(os.environ, PATH=os.path.join(ROOT, "adapters")):
+                self.assertIsNone(starting.never_answers(["gp"]))
+
+    def put(self, path: str, text: str) -> None:
+        with open(path, "w", encoding="utf-8") as file:
+            file.write(f"#!/bin/sh\n{text}\n")
+        os.chmod(path, 0o755)
+
+    def test_why_an_interpreter_ends(self) -> None:
+        """Its status or signal and the last lines that it says, where it ends so by itself, of an adapter and of any other words."""
         with tempfile.TemporaryDirectory(prefix="tmhost-python-test.") as folder:
             for name, text in (
-                ("tmhost-mine", 'cat; echo usage >&2; echo "no option $1" >&2; echo >&2; exit 2'), ("tmhost-well", "echo careful >&2"), ("tmhost-mute", "exit 1"),
-                ("tmhost-slow", "echo late >&2; exec sleep 60"), ("other", "echo no >&2; exit 2"),
+                ("tmhost-mine", 'cat; echo "usage: mine" >&2; echo "no option $1" >&2; echo >&2; exit 2'), ("tmhost-well", "echo careful >&2"), ("tmhost-mute", "exit 1"),
+                ("tmhost-slow", "echo late >&2; exec sleep 60"), ("other", "echo no >&2; exit 2"), ("well", "exit 0"), ("waits", "cat; echo its end >&2; exit 1"),
+                ("long", 'for at in 1 2 3 4 5; do printf "%0300d\\033$at\\n" $at >&2; done; exit 3'), ("killed", "kill -SEGV $$"), ("leaves", "sleep 60 & echo gone >&2; exit 4"),
+                ("red", "printf '\\033[31mred\\n' >&2; exit 5"),
             ):
-                with open(os.path.join(folder, name), "w", encoding="utf-8") as file:
-                    file.write(f"#!/bin/sh\n{text}\n")
-                os.chmod(file.name, 0o755)
+                self.put(os.path.join(folder, name), text)
             path = os.pathsep.join([folder, os.environ.get("PATH", os.defpath)])
-            with mock.patch.dict(os.environ, PATH=path), mock.patch.object(starting, "ENDS_WITHIN", 1.0):
+            with mock.patch.dict(os.environ, PATH=path), mock.patch.object(starting, "SHIPPED_ENDS_WITHIN", 1.0):
+                begun = time.monotonic()
+                zeros = "0" * 299
                 for words, why in (
-                    ("tmhost-mine --x", "no option --x"), ("tmhost-well", None), ("tmhost-mute", None), ("tmhost-slow", None), ("other", None), ("tmhost-nowhere", None), ("", None),
+                    ("tmhost-mine --x", "ended with status 2: no option --x"), ("tmhost-well", None), ("tmhost-mute", "ended with status 1"), ("tmhost-slow", None),
+                    ("other", "ended with status 2: no"), ("well", "ended with status 0"), ("waits", None), ("killed", "was ended by SIGSEGV"),
+                    ("long", f"ended with status 3: {zeros}3.. | {zeros}4.. | {zeros}5.."), ("leaves", "ended with status 4: gone"),
+                    ("red", "ended with status 5: \\x1b[31mred"),
+                    ("sh nothere.sh", "nothere.sh"), ("tmhost-nowhere", None), ("", None),
                 ):
-                    self.assertEqual(starting.why_it_ends(words.split()), why, words)
+                    said = starting.why_it_ends(words.split())
+                    if why is None or words != "sh nothere.sh":
+                        self.assertEqual(said, why and f"{words} {why}", words)
+                    else:
+                        self.assertRegex(said or "", r"\Ash nothere\.sh ended with status [1-9]\d*: .*nothere\.sh")
+                self.assertLess(time.monotonic() - begun, 30)
 
     def test_that_the_adapters_start_these(self) -> None:
         sys.path.insert(0, os.path.join(ROOT, "adapters"))

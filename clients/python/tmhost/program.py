@@ -46,7 +46,10 @@ def own_program() -> Optional[str]:
 
 def find_program() -> str:
     """The program that the environment variable TMHOST names, the one on PATH, or that of the place in which this package lies."""
-    found = os.environ.get("TMHOST") or shutil.which("tmhost") or own_program()
+    named = os.environ.get("TMHOST")
+    if named and not shutil.which(named):
+        raise FileNotFoundError(f"TMHOST names no program: {named}")
+    found = named or shutil.which("tmhost") or own_program()
     if not found:
         how = f"; {SCRIPT} --version builds one" if os.path.isfile(SCRIPT) else ""
         raise FileNotFoundError(f"there is no tmhost on PATH, and TMHOST names none{how}")

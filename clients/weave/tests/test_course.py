@@ -87,7 +87,7 @@ class Course(Case):
         self.write(self.source())
         done = self.run_weave()
         name = self.names[CHANGED % 3]
-        self.assertEqual((done.status, done.errors), (0, f"{self.text}: {name}: 7 fields kept, 7 stale, 7 replayed\n"))
+        self.assertEqual((done.status, done.errors), (0, f"{self.text}: {name}: 7 kept, 7 evaluated again, 7 replayed\n"))
         numbers = [number for at, number in enumerate(self.numbers) if at % 3 == CHANGED % 3]
         self.assertEqual(self.logged(name), [FIRST[name], *(ADD[name].format(number) for number in numbers)])
         self.assertEqual([self.logged(other) for other in self.names if other != name], [[], []])

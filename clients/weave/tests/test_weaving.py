@@ -91,7 +91,7 @@ class Weaving(Case):
         self.assertEqual([field["id"] for field in self.fields()], list(before.values()))
         self.write(self.read().replace("other", "another"))
         done = self.run_weave()
-        self.assertIn("a: 2 fields kept, 4 stale, 2 replayed", done.errors)
+        self.assertIn("a: 2 kept, 4 evaluated again, 2 replayed", done.errors)
         self.assertEqual(self.logged("a"), ["one", "two", "three", "four", "another", "six"])
 
     def test_pure(self) -> None:
@@ -172,15 +172,16 @@ class Weaving(Case):
             self.assertEqual((woven.count("```tmhost-error\n"), len(answers(woven))), (len(infos), 1))
             return done.status, re.sub(": lines? .*", "", done.errors.split("\n")[-2].split(": ", 1)[1])
 
-        for words, infos, wanted in (
+        cases: Sequence[Tuple[List[str], List[str], Tuple[int, str]]] = (
             ([], ["a"], (0, "1 error")),
             (["--no-errors"], ["a"], (1, "1 error")),
-            (["--no-errors"], ["a {error=TRUE}", "{a, error=true}"], (0, "a: 0 fields kept, 3 stale, 0 replayed")),
+            (["--no-errors"], ["a {error=TRUE}", "{a, error=true}"], (0, "a: 3 evaluated")),
             (["--no-errors"], ["a {error=TRUE}", "a"], (1, "1 error")),
             ([], ["{a, error=FALSE}"], (1, "1 error")),
             ([], ["{a, error=f}", "{a, error=T}", "a"], (1, "2 errors")),
-            (["--no-errors"], [], (0, "a: 0 fields kept, 1 stale, 0 replayed")),
-        ):
+            (["--no-errors"], [], (0, "a: 1 evaluated")),
+        )
+        for words, infos, wanted in cases:
             with self.subTest(words=words, infos=infos):
                 self.assertEqual(ends(words, *infos), wanted)
                 for more in ("--check", "--test"):
@@ -191,7 +192,7 @@ class Weaving(Case):
         self.write(self.front("a") + fences([("a", "x"), ("a", "die"), ("a", "y")]))
         done = self.run_weave()
         at = self.read().split("\n").index("die") + 1
-        self.assertEqual((done.status, f"{self.text}: line {at}: a: no answer: Ended\n" in done.errors), (1, True), done.errors)
+        self.assertEqual((done.status, f"{self.text}: line {at}: a: no answer: this code ended its interpreter\n" in done.errors), (1, True), done.errors)
 
     def test_what_a_replay_shows(self) -> None:
         """Where an interpreter answers otherwise now, that is reported of the answers that are kept."""
@@ -208,7 +209,7 @@ class Weaving(Case):
         self.write(self.front("a") + "```c\nx\n```\n\n```tmhost-answer\n1\n```\n")
         text = self.read()
         done = self.run_weave()
-        self.assertEqual((done.status, self.read()), (0, text))
+        self.assertEqual((done.status, self.read()), (1, text))
         self.assertIn("line 9: an answer that is after no fence", done.errors)
 
     def test_check(self) -> None:
@@ -243,10 +244,12 @@ class Weaving(Case):
         self.assertEqual(self.weave(text), done.output)
 
     def test_what_has_no_sessions_stays(self) -> None:
-        for text in ["", "# x\n```py\n1\n```\n", self.front("a") + "```c\nx\n```\n", "---\r\n\0\r\n---", "---\nsessions: {}\n---\n```a\n"]:
-            self.assertEqual(self.weave(text), text)
-            done = self.run_weave("--check", self.text)
-            self.assertEqual((done.status, done.output), (0, ""))
+        without = ["", "# x\n```py\n1\n```\n", "---\r\n\0\r\n---", "---\nsessions: {}\n---\n```a\n"]
+        for text, status in [*((one, 0) for one in without), (self.front("a") + "```c\nx\n```\n", 1), (self.front("a"), 1)]:
+            self.assertEqual(self.weave(text, status), text)
+            for words in (["--check", self.text], ["--test", self.text]):
+                done = self.run_weave(*words)
+                self.assertEqual((done.status, done.output), (status, ""))
             self.assertIn("no fence is of a session, so nothing is evaluated", done.errors)
             self.assertEqual(self.run_weave("--output", "-", self.text).output, text)
         with open(self.text, "wb") as file:
@@ -264,7 +267,7 @@ class Weaving(Case):
         ):
             self.write(text)
             said = f"{self.text}: no fence is of a session, so nothing is evaluated. Sessions in the front matter: {sessions}. Fences: {found}\n"
-            self.assertEqual(self.run_weave(self.text), (0, "", said))
+            self.assertEqual(self.run_weave(self.text), (int(sessions == "a"), "", said))
         self.assertEqual(self.weave(self.front("a") + "```a\nx\n```\n").count("tmhost-answer"), 1)
         self.assertEqual(self.run_weave(self.text).errors, "")
 
@@ -374,7 +377,7 @@ class Failures(Case):
         self.write(text)
         done = self.run_weave(self.text)
         self.assertEqual((done.status, self.read().count("no answer: Ended")), (1, 3))
-        self.assertEqual(done.errors.count("p: python: error: unrecognized arguments: --no-such-word\n"), 1)
+        self.assertEqual(done.errors.count("p: tmhost-python --no-such-word ended with status 2: python: error: unrecognized arguments: --no-such-word\n"), 1)
 
     def test_lost(self) -> None:
         text = self.front("a", "b") + fences([("a", "x\ndie\ny\nz"), ("b", "x"), ("a", "w"), ("a {pure}", "p"), ("a {hide}", "v")])
@@ -420,6 +423,7 @@ class Failures(Case):
 
     def test_no_interpreter(self) -> None:
         woven = self.weave(self.front("a", b=[self.place("none")]) + fences([("b", "x"), ("a", "y"), ("b", "z")]), 1)
+        self.assertIn(f"b: there is no program {self.place('none')}\n", self.run_weave().errors)
         self.assertIn("```tmhost-no-answer\nno answer: StartRefused\n```", woven)
         self.assertEqual(answers(woven), [value(["y"])])
 
@@ -481,7 +485,7 @@ class Failures(Case):
         self.assertEqual([field["state"] for field in self.fields()][:3], ["answered"] * 3)
         self.write("", self.place("end"))
         self.logged("a")
-        self.assertEqual(self.run_weave(), (0, "", f"{self.text}: a: 2 fields kept, 3 stale, 2 replayed\n"))
+        self.assertEqual(self.run_weave(), (0, "", f"{self.text}: a: 2 kept, 3 evaluated, 2 replayed\n"))
         self.assertEqual(self.logged("a"), lines)
         self.assertEqual(answers(self.read()), expected(lines))
 
@@ -497,11 +501,14 @@ class Failures(Case):
 
     def test_words(self) -> None:
         self.assertEqual(self.run_weave("--help").status, 0)
+        version = subprocess.run([PROGRAM, "--version"], capture_output=True, text=True, check=True).stdout
+        self.assertEqual(self.run_weave("--version"), (0, f"tmhost-weave: {version}", ""))
+        self.assertEqual(self.run_weave("--version", TMHOST="/nope"), (1, "", "tmhost-weave: TMHOST names no program: /nope\n"))
         self.assertEqual(self.run_weave("--other", self.text).status, 2)
         self.assertEqual(self.run_weave(self.place("none.md")).status, 1)
         self.write(self.front("a") + "```a\nx\n")
         self.assertIn("isn't closed", self.run_weave().errors)
         self.write(self.front("a") + fences([("a", "x")]))
-        self.assertEqual(self.run_weave(self.text, TMHOST=self.place("none")).status, 1)
+        self.assertEqual(self.run_weave(self.text, TMHOST=self.place("none")), (1, "", f"{self.text}: TMHOST names no program: {self.place('none')}\n"))
         shutil.move(self.text, self.sheet)
         self.assertIn("name of its worksheet", self.run_weave(self.sheet).errors)

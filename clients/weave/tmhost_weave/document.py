@@ -2,20 +2,23 @@
 import collections
 import dataclasses
 import re
-from typing import Counter, Dict, FrozenSet, List, Optional, Sequence, Tuple
+from typing import Counter, Dict, FrozenSet, Iterator, List, Optional, Sequence, Tuple
 
 from tmhost_fences.blocks import FENCE, LINE, Block, block_of, cut, tokens_of
 from tmhost_fences.fields import Group, groups, language_in, whole
 from tmhost_fences.front import Sessions, front_of
-from tmhost_fences.info import is_hidden, is_without_text, wants_errors
+from tmhost_fences.info import ATTRIBUTES, LITERAL, OBEYED, is_hidden, is_without_text, wants_errors
+from tmhost_fences.near import near
 from tmhost_fences.troubles import Trouble
 
 from .answers import Finder, Shown, is_of_an_answer, lines_of
+from .meant import session_meant
 
 BARE_WORD = re.compile(r"[A-Za-z][A-Za-z-]*")
 TAB = 4  # columns
 HIDE, FOLD, PURE, WHOLE = "hide", "fold", "pure", "whole"
 FLAGS = (HIDE, FOLD, PURE, WHOLE)
+WORDS = (*FLAGS, LITERAL)
 TEXTLESS = "textless"  # no text of an answer is shown, as by `results='hide'`
 ERRORS_WANTED, ERRORS_FAIL = "errors wanted", "errors fail"  # by `error=TRUE` and `error=FALSE`
 LONGEST_NAME = 40  # characters of what isn't a session's, in a message
@@ -59,19 +62,51 @@ def named_in(block: Block, sessions: Sessions) -> Optional[Tuple[str, FrozenSet[
         return None
     for word in info.words:
         if BARE_WORD.fullmatch(word) and word not in FLAGS:
-            raise Trouble(f"line {block.begin + 1}: {ascii(word)} is none of the words that a fence can have: {', '.join(FLAGS)}")
-    errors = {True: [ERRORS_WANTED], False: [ERRORS_FAIL], None: []}[wants_errors(block.options)]
-    by_options = [HIDE] * is_hidden(block.options) + [TEXTLESS] * is_without_text(block.options) + errors
+            meant = near(word, WORDS)
+            is_meant = f": is {meant} meant?" if meant else ""
+            raise Trouble(f"line {block.begin + 1}: {ascii(word)} is none of the words that a fence can have: {', '.join(WORDS)}{is_meant}")
+    by_error = {True: [ERRORS_WANTED], False: [ERRORS_FAIL]}
+    wanted = wants_errors(block.options)
+    by_options = [HIDE] * is_hidden(block.options) + [TEXTLESS] * is_without_text(block.options) + ([] if wanted is None else by_error[wanted])
     return info.name, info.flags(FLAGS) | frozenset(by_options)
 
 
-def why_unevaluated(block: Block) -> Optional[str]:
-    """Why a fence that is no session's isn't evaluated, where its form says that it is meant to be: a chunk (`{r}`), or one with a flag."""
+def option_meant(name: str) -> Optional[str]:
+    """The option that is obeyed of which another one is a misspelling."""
+    return None if name in OBEYED else near(name, [one for one in OBEYED if one != "echo"])
+
+
+def misspelt(block: Block) -> Iterator[str]:
+    """What is said of the words and options of a session's fence that change nothing, and are most likely meant to."""
     info = block.info
-    if not block.is_evaluated or not (info.is_chunk or info.flags(FLAGS)):
+    bare = [] if info.is_chunk else ATTRIBUTES.sub(" ", block.info_text).split()[1:]
+    for word in bare:
+        if word in WORDS:
+            yield f"{word!r} changes nothing without braces: {{{word}}}"
+    for word in [*bare, *(word[1:] for word in info.words if word.startswith("."))]:
+        meant = near(word, WORDS) if BARE_WORD.fullmatch(word) else None
+        if meant:
+            yield f"{word!r} changes nothing: is {{{meant}}} meant?"
+    for name in block.options:
+        meant = option_meant(name)
+        if meant:
+            yield f"the option {name!r} changes nothing: is {meant} meant?"
+
+
+def why_unevaluated(block: Block, sessions: Sessions) -> Optional[str]:
+    """Why a fence that is no session's isn't evaluated, where it looks like one that is meant to be: a chunk (`{r}`), one with a flag, and one whose name
+    is the language of a session, or nearly the name of one."""
+    info = block.info
+    if not block.is_evaluated:
+        return None
+    meant = session_meant(info.name, sessions)
+    if not (meant or info.is_chunk or info.flags(FLAGS)):
         return None
     name = ascii(info.name[:LONGEST_NAME])[1:-1]
-    return f"no session is called {name}, so this fence isn't evaluated" if name else "no session is named here, so this fence isn't evaluated"
+    if not name:
+        return "no session is named here, so this fence isn't evaluated"
+    text = f"{{{name}, eval=FALSE}}" if info.is_chunk else f"{name} {{{LITERAL}}}"
+    return f"no session is called {name}, so this fence isn't evaluated" + (f": is {meant} meant? (As text it is `{text}`)" if meant else "")
 
 
 class Document:
@@ -84,7 +119,8 @@ class Document:
         self.fences: List[Fence] = []
         self.strays: List[int] = []  # lines, from 1, at which an answer begins that belongs to no fence
         self.others: Counter[str] = collections.Counter()  # fences of no session, by what stands at them
-        self.unevaluated: List[Tuple[int, str]] = []  # those of them that are meant to be evaluated: the line, from 1, and why they aren't
+        self.doubts: List[Tuple[int, str]] = []  # what isn't done that is most likely meant: the line, from 1, of a fence, and what is said of it
+        self.has_texts = False  # whether a fence of a session is text since it says so
         self.ignored: Dict[str, int] = {}  # options of fences of sessions that are, each with the line, from 1, of the first one
         self._read(contents[front.lines :], front.lines)
 
@@ -101,14 +137,21 @@ class Document:
             if named:
                 finder = Finder(tokens, at, token.map[1], body, first)
                 self.fences.append(self._fence(block, named, finder, first))
-                self.ignored = {**{name: block.begin + 1 for name in block.ignored}, **self.ignored}
+                self.doubts += [(block.begin + 1, why) for why in misspelt(block)]
+                self.ignored = {**{name: block.begin + 1 for name in block.ignored if not option_meant(name)}, **self.ignored}
                 at = finder.at
             elif is_of_an_answer(block.info_text):
                 self.strays.append(block.begin + 1)
             else:
                 self.others[block.info_text] += 1
-                why = why_unevaluated(block)
-                self.unevaluated += [(block.begin + 1, why)] if why else []
+                self.has_texts |= block.info.name in self.sessions
+                why = why_unevaluated(block, self.sessions)
+                self.doubts += [(block.begin + 1, why)] if why else []
+
+    @property
+    def is_doubtful(self) -> bool:
+        """Whether something that is most likely meant to be evaluated isn't: a fence, or all that sessions are named for."""
+        return bool(self.doubts) or bool(self.sessions) and not self.fences and not self.has_texts
 
     def _fence(self, block: Block, named: Tuple[str, FrozenSet[str]], finder: Finder, first: int) -> Fence:
         if not block.is_closed:

@@ -1,16 +1,42 @@
 """Evaluates the stale fields of a text, in its order."""
 import contextlib
 import threading
-from typing import Callable, Dict, Iterator, List, Optional, Set
+from typing import Callable, Dict, Iterator, List, Optional, Set, Tuple
 
-from tmhost import Cell, Lost, Refused, TimedOut, Worksheet
+from tmhost import Banner, Cell, Ended, Event, Lost, Refused, TimedOut, Worksheet
 
 from .plan import MARK, Plan, Wanted
 
 BELOW = "what stands below is of a replay, and is removed"
 UNTRIED = "not evaluated, since what stands before it in its session has no answer"
-ENDED = "no answer: Ended"
+AT_START, AT_CODE = "before its banner", "at the code of a field"  # when an interpreter ended
 PATIENCE = 30.0  # seconds after which it is said that a field has no answer yet
+HEARD_WITHIN = 10.0  # seconds in which an end is heard of that a caller knows already
+
+
+class Ends:
+    """Hears of each interpreter that has ended whether it had greeted: then its code ended it. The events come on a thread of the worksheet."""
+
+    def __init__(self, sheet: Worksheet) -> None:
+        self._greeted: Set[Tuple[str, int]] = set()
+        self._ended: Dict[str, str] = {}
+        self._changed = threading.Condition()
+        self.stop = sheet.listen(self._hear)
+
+    def _hear(self, event: Event) -> None:
+        with self._changed:
+            if isinstance(event, Banner):
+                self._greeted.add((event.session, event.life))
+                self._ended.pop(event.session, None)  # of an earlier one, which had nothing to answer
+            elif isinstance(event, Ended) and event.reason == "Ended":
+                self._ended[event.session] = AT_CODE if (event.session, event.life) in self._greeted else AT_START
+                self._changed.notify_all()
+
+    def take(self, session: str) -> Optional[str]:
+        """When the interpreter of a session ended that a caller has lost."""
+        with self._changed:
+            self._changed.wait_for(lambda: session in self._ended, HEARD_WITHIN)
+            return self._ended.pop(session, None)
 
 
 class Evaluator:
@@ -24,6 +50,7 @@ class Evaluator:
         self.others: Dict[str, int] = {}  # how many of those were answered otherwise than what is kept
         self.failed: Set[str] = set()  # sessions of which no further field is evaluated
         self._scratch: List[Cell] = []
+        self._ends = Ends(sheet)
 
     def evaluate_all(self) -> None:
         stale = [wanted for wanted in self.plan.wanted if not wanted.is_kept]
@@ -31,6 +58,7 @@ class Evaluator:
             self.begun(wanted, place, len(stale))
             with self._watched(wanted):
                 wanted.failure = self._failure(wanted)
+            wanted.is_answered = wanted.failure is None
             if wanted.failure and not wanted.fence.is_pure:
                 self.failed.add(wanted.session)
         # The mark that stands in front of the others goes last.
@@ -55,15 +83,18 @@ class Evaluator:
         if wanted.fence.is_pure:
             self.sheet.stop(wanted.session)
         elif wanted.session not in self.replayed:
-            failure = self._replay(wanted.session)
+            failure = self._replay(wanted.session, wanted)
             if failure:
                 return failure
-        return self._evaluate(self.sheet.cell(wanted.id))
+        return self._evaluate(self.sheet.cell(wanted.id), wanted, wanted)
 
-    def _evaluate(self, cell: Cell) -> Optional[str]:
+    def _evaluate(self, cell: Cell, code: Wanted, wanted: Wanted) -> Optional[str]:
+        """Why a cell has no answer to this code, which is there for the sake of a field."""
         try:
             cell.evaluate(self.seconds)
         except Lost as lost:
+            if lost.reason == "Ended":
+                wanted.end, wanted.ender = self._ends.take(cell.session), code
             return f"no answer: {lost.reason}"
         except Refused as refused:
             return str(refused)
@@ -72,8 +103,8 @@ class Evaluator:
             return f"no answer within {self.seconds:g} seconds"
         return None
 
-    def _replay(self, session: str) -> Optional[str]:
-        """Has the interpreter of a session evaluate the fields that are kept, in a field of their own."""
+    def _replay(self, session: str, first: Wanted) -> Optional[str]:
+        """Has the interpreter of a session evaluate the fields that are kept, in a field of their own, in front of the first one that isn't."""
         kept = [wanted for wanted in self.plan.of(session) if wanted.is_kept]
         self.replayed[session] = len(kept)
         if not kept:
@@ -84,7 +115,7 @@ class Evaluator:
             return f"not evaluated, since what stands before it can't be replayed: {refused}"
         for wanted in kept:
             cell.set(wanted.input)
-            failure = self._evaluate(cell)
+            failure = self._evaluate(cell, wanted, first)
             if failure:
                 return f"not evaluated, since the replay of what stands before it failed: {failure}"
             assert wanted.id is not None

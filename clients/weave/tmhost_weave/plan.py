@@ -14,7 +14,8 @@ MARK = Session("tmhost-weave", ("true",), False)
 
 @dataclasses.dataclass
 class Wanted:
-    """A field of the text. `session` is the name that its session has in the worksheet, `line` where it stands in the text, from 1."""
+    """A field of the text. `session` is the name that its session has in the worksheet, `line` where it stands in the text, from 1. Where an interpreter
+    has ended, `end` says when, and `ender` is the field at which it did, which is another one in a replay."""
 
     fence: Fence
     session: str
@@ -23,9 +24,17 @@ class Wanted:
     misfit: Optional[str]
     id: Optional[int] = None
     is_kept: bool = False
+    is_answered: bool = False  # by this weave
     failure: Optional[str] = None
+    end: Optional[str] = None
+    ender: "Optional[Wanted]" = None
 
-    def is_answered_by(self, field: Field) -> bool:
+    @property
+    def session_in_text(self) -> str:
+        """What a user knows its session as: one with other words, or of pure fences, has another name in the worksheet."""
+        return f"{self.fence.session} {{pure}}" if self.fence.is_pure else self.fence.session
+
+    def fits(self, field: Field) -> bool:
         return self.misfit is None and field.state == "answered" and field.input == self.input
 
 
@@ -72,6 +81,16 @@ class Plan:
     def is_stale(self) -> bool:
         return not all(wanted.is_kept for wanted in self.wanted)
 
+    def lost_answers(self, session: str) -> int:
+        """How many answers the worksheet has in a session that aren't kept."""
+        kept = self.kept_ids
+        return sum(field.session == session and field.state == "answered" and field.id not in kept for field in self.fields)
+
+    @property
+    def answered(self) -> int:
+        """How many fields have their answer by now."""
+        return sum(wanted.is_kept or wanted.is_answered for wanted in self.wanted)
+
     @property
     def kept_ids(self) -> Dict[int, Wanted]:
         return {wanted.id: wanted for wanted in self.wanted if wanted.is_kept and wanted.id is not None}
@@ -79,7 +98,7 @@ class Plan:
 
 def keep_first(wanted: List[Wanted], have: List[Field]) -> None:
     """Keeps the fields in front of the first fence that is changed."""
-    same = sum(1 for _ in itertools.takewhile(lambda pair: pair[0].is_answered_by(pair[1]), zip(wanted, have)))
+    same = sum(1 for _ in itertools.takewhile(lambda pair: pair[0].fits(pair[1]), zip(wanted, have)))
     if same < len(wanted):
         same = next(at for at, one in enumerate(wanted) if one.fence is wanted[same].fence)
     keep(zip(wanted[:same], have))

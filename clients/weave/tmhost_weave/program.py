@@ -1,13 +1,17 @@
 """The command line of tmhost-weave."""
 import argparse
 import os
+import re
 import sys
 import tempfile
 from typing import List
 
 from tmhost import TmhostError
+from tmhost.errors import plain
 from tmhost.program import show_building
+from tmhost.version import ShowVersion
 
+from .cutting import LONGEST
 from .files import locked
 from tmhost_fences.troubles import Trouble
 from .weaving import Weave
@@ -15,14 +19,18 @@ from .weaving import Weave
 ABOUT = "Evaluates the code in a CommonMark text, and puts each answer after its fence."
 NOTES = """
 The front matter of TEXT names the sessions, as `sessions: {py: [tmhost-python]}`. After the session of a fence may
-stand {whole}, {pure}, {hide} and {fold}; `fences: whole` in the front matter makes each fence one field. The answers are kept in the worksheet beside TEXT, whose name ends in .sheet.
-The program is the one that TMHOST names, tmhost on PATH, or the one that was built or installed with this. The status is 0 where all fields are answered, 1 where one
-isn't, where a fence such as {r} or r {hide} is that of no session, where --check says that something would change or
---test that an answer is another one, or where something went wrong, and 2 where the words are refused. An answer may be an error
-that its interpreter reports: standard error says how many are, and in which lines their code stands. With --no-errors the status is 1 then,
-but for code with error=TRUE in braces; it is for code with error=FALSE without that word, too. The text is woven in any case.
+stand {whole}, {pure}, {hide} and {fold}, or {literal} where its code is a text; `fences: whole` in the front matter makes each fence one field.
+The answers are kept in the worksheet beside TEXT, whose name ends in .sheet. The program is the one that TMHOST names, tmhost on PATH, or the one
+that was built or installed with this.
+
+The status is 0 where all fields are answered, 1 where one isn't, where a fence is of no session that looks like one (`{r}`, r {hide}, python beside
+the session py), where a word of a fence looks misspelt, where sessions are named and nothing is evaluated, where --check says that something would
+change or --test that an answer is another one, or where something went wrong; 2 where the words are refused, and 130 after Control-C. An answer may
+be an error that its interpreter reports: standard error says how many are, and in which lines their code stands. With --no-errors the status is 1
+then, but for code with error=TRUE in braces; it is for code with error=FALSE without that word, too. The text is woven in any case.
 """
 INTERRUPTED = 130
+NUMBER = re.compile("[1-9][0-9]{0,11}")
 
 
 def seconds(word: str) -> float:
@@ -30,6 +38,12 @@ def seconds(word: str) -> float:
     if not 0 < value <= 1_000_000:
         raise ValueError
     return value
+
+
+def bytes_shown(word: str) -> int:
+    if not NUMBER.fullmatch(word):
+        raise argparse.ArgumentTypeError(f"{word!r} is no number of bytes")
+    return int(word)
 
 
 def arguments(words: List[str]) -> argparse.Namespace:
@@ -40,7 +54,11 @@ def arguments(words: List[str]) -> argparse.Namespace:
     what.add_argument("--test", action="store_true", help="evaluate all again, write nothing, and show which answers of TEXT are others now, as for a CI")
     parser.add_argument("--output", metavar="FILE", help="where the woven text goes, in place of TEXT (-: standard output)")
     parser.add_argument("--seconds", type=seconds, metavar="N", help="how long a field may take (no limit)")
+    parser.add_argument(
+        "--longest", type=bytes_shown, default=LONGEST, metavar="BYTES", help=f"how much of an answer's text is shown; the worksheet has it whole ({LONGEST:,})"
+    )
     parser.add_argument("--no-errors", action="store_true", help="the status is 1 where an answer is an error that isn't wanted (error=TRUE)")
+    parser.add_argument("--version", action=ShowVersion)
     given = parser.parse_args(words)
     if given.test and given.output is not None:
         parser.error("--test writes nothing, so there is no --output for it")
@@ -51,9 +69,9 @@ def run(given: argparse.Namespace) -> bool:
     show_building()
     if given.test:
         with tempfile.TemporaryDirectory(prefix="tmhost-weave-") as folder:
-            return Weave(given.text, None, folder, given.no_errors).test(given.seconds)
+            return Weave(given.text, None, folder, given.no_errors, given.longest).test(given.seconds)
     with locked(os.path.realpath(given.text)):
-        weave = Weave(given.text, given.output, None, given.no_errors)
+        weave = Weave(given.text, given.output, None, given.no_errors, given.longest)
         return weave.check() if given.check else weave.weave(given.seconds)
 
 
@@ -61,10 +79,8 @@ def main(words: List[str]) -> int:
     given = arguments(words)
     try:
         return 0 if run(given) else 1
-    except (Trouble, TmhostError) as trouble:
-        print(f"{given.text}: {trouble}", file=sys.stderr)
-    except OSError as error:
-        print(f"{given.text}: {error.strerror or error}" + (f": {error.filename}" if error.filename else ""), file=sys.stderr)
+    except (Trouble, TmhostError, OSError) as trouble:
+        print(f"{given.text}: {plain(trouble)}", file=sys.stderr)
     except KeyboardInterrupt:
         return INTERRUPTED
     return 1

@@ -5,7 +5,7 @@ import subprocess
 import time
 from typing import Dict, List
 
-from tmhost import Field, InUse, Refused, Worksheet, find_program
+from tmhost import Field, InUse, Refused, TmhostError, Worksheet, find_program
 
 from .plan import MARK, Plan, Wanted
 from tmhost_fences.troubles import Trouble
@@ -13,7 +13,10 @@ from tmhost_fences.troubles import Trouble
 SECOND = ".alt"  # of a worksheet's second file
 PATIENCE = 10.0  # seconds for which a worksheet may be in use, since a program whose weave was killed needs a moment to end
 PAUSE = 0.05
-LARGE = 16_777_216  # bytes of a worksheet's file from which on it is written again
+LARGE = 1_000_000  # bytes of a worksheet's file from which on it may be written again
+MOST_DEAD = 4  # times what its fields hold, which a file may have
+NEARLY_FULL = 1_048_576  # bytes
+OF_A_FIELD = 100  # bytes that one has beside its texts, about
 
 
 def sheet_path(text: str) -> str:
@@ -29,6 +32,8 @@ def make(path: str) -> None:
     if os.path.lexists(path + SECOND) and os.path.getsize(path + SECOND):
         raise Trouble(f"{path + SECOND} is there without {path}, to which it belongs")
     made = subprocess.run([find_program(), "create", os.path.join(".", new)], stdin=subprocess.DEVNULL, capture_output=True)
+    if made.returncode != 0 and has_no_space(path):
+        raise Trouble(f"no space left for {os.path.basename(path)}: make room and weave again")
     if made.returncode != 0:
         raise Trouble(f"{path} can't be made: {made.stderr.decode('utf-8', 'backslashreplace').strip()}")
     # The second file of a new worksheet is empty, so one that is there alone may go.
@@ -64,6 +69,28 @@ def opened(path: str) -> Worksheet:
 
 def largest_file(path: str) -> int:
     return max(os.path.getsize(name) for name in (path, path + SECOND) if os.path.exists(name))
+
+
+def held(sheet: Worksheet) -> int:
+    """How many bytes the fields have, about."""
+    answers = sum(len(field.answer.shown_bytes) for field in sheet.fields if field.answer)
+    return answers + sum(len(field.input.encode("utf-8", "surrogatepass")) + OF_A_FIELD for field in sheet.fields)
+
+
+def shorten(sheet: Worksheet, path: str) -> None:
+    """Has the worksheet written again where most of its file is of answers that others took the place of. That goes into the other of its two files, over
+    what stands there, so neither grows on; none becomes shorter. Where there is no room for it, all stays as it is."""
+    if largest_file(path) > max(LARGE, MOST_DEAD * held(sheet)):
+        with contextlib.suppress(TmhostError):
+            sheet.checkpoint()
+
+
+def has_no_space(path: str) -> bool:
+    """Whether the file system of a path is full, or nearly so, since what didn't fit may be longer than what is left."""
+    with contextlib.suppress(OSError):
+        found = os.statvfs(os.path.dirname(path) or ".")
+        return found.f_bavail * found.f_frsize < NEARLY_FULL
+    return False
 
 
 def fit(sheet: Worksheet, plan: Plan) -> None:

@@ -5,19 +5,20 @@ import itertools
 import os
 import re
 import sys
-from typing import Dict, Iterator, List, Optional
+from typing import Dict, Iterator, List, Optional, Sequence, Set
 
-from tmhost import Field, Session, readable
-from tmhost.starting import doubt, why_it_ends
+from tmhost import Died, Field, Session
+from tmhost.starting import doubt, never_answers, why_it_ends
 
 from .answers import ANSWER, ERROR, FORMULA, NO_ANSWER, PICTURE, Piece, Shown
+from .cutting import LONGEST, cut
 from .document import ERRORS_FAIL, ERRORS_WANTED, FOLD, HIDE, TEXTLESS, Document
-from .evaluation import ENDED, Evaluator
+from .evaluation import AT_CODE, AT_START, UNTRIED, Evaluator
 from .files import new_name, put, read
 from .formulas import parts_of
 from .pictures import Pictures
 from .plan import Plan, Wanted
-from .sheets import LARGE, fit, largest_file, make, opened, sheet_path
+from .sheets import fit, has_no_space, make, opened, sheet_path, shorten
 from tmhost_fences.troubles import Trouble
 
 MOST_REPORTED = 5  # kinds of fences, in a message
@@ -57,33 +58,61 @@ def first_other_line(old: bytes, new: bytes) -> int:
 
 
 def why_nothing(document: Document) -> str:
-    """What is said of a text of which no fence is a session's: an author has most likely named a session otherwise than its fences."""
+    """What is said of a text of which no fence is evaluated: an author has most likely named a session otherwise than its fences."""
     sessions = ", ".join(document.sessions) or "none, as `sessions: {py: [tmhost-python]}`"
     reported = [f"{ascii(info[:LONGEST_INFO])[1:-1] or 'without a word'} ({count})" for info, count in document.others.most_common(MOST_REPORTED + 1)]
     fences = ", ".join([*reported[:MOST_REPORTED], *([".."] if len(reported) > MOST_REPORTED else [])]) or "none"
-    return f"no fence is of a session, so nothing is evaluated. Sessions in the front matter: {sessions}. Fences: {fences}"
+    what = "each fence of a session says that it is text" if document.has_texts else "no fence is of a session"
+    return f"{what}, so nothing is evaluated. Sessions in the front matter: {sessions}. Fences: {fences}"
+
+
+def reason_of(wanted: Wanted) -> Optional[str]:
+    """Why a field has no answer, with what isn't said in the text: where an interpreter ended."""
+    if wanted.end == AT_CODE and wanted.ender is wanted:
+        return "no answer: this code ended its interpreter"
+    if wanted.end == AT_CODE and wanted.ender:
+        return f"not evaluated, since at the replay of line {wanted.ender.line} that code ended the interpreter"
+    return "no answer: its interpreter ended at its start" if wanted.end == AT_START and wanted.ender is wanted else wanted.failure
+
+
+def later_ones(wanted: List[Wanted]) -> str:
+    """What is said of the fields of a session that weren't tried."""
+    first, last, name = wanted[0].line, wanted[-1].line, wanted[0].session_in_text
+    if len(wanted) == 1:
+        return f"1 later field of {name} isn't evaluated (line {first})"
+    return f"{len(wanted)} later fields of {name} aren't evaluated (lines {first} to {last})"
 
 
 class Weave:
     """`output` is where the woven text goes: None for the text itself, "-" for standard output. `folder` is where the worksheet lies, if not beside the text.
-    `errors_fail` is whether an error is a failure where the options of its fence don't say."""
+    `errors_fail` is whether an error is a failure where the options of its fence don't say; `longest` is how many bytes of an answer's text are shown."""
 
-    def __init__(self, name: str, output: Optional[str], folder: Optional[str] = None, errors_fail: bool = False) -> None:
+    def __init__(self, name: str, output: Optional[str], folder: Optional[str] = None, errors_fail: bool = False, longest: int = LONGEST) -> None:
         self.name, self.path = name, os.path.realpath(name)
-        self.errors_fail = errors_fail
+        self.errors_fail, self.longest = errors_fail, longest
         self.target = None if output == "-" else self.path if output is None else os.path.realpath(output)
         self.sheet_path = sheet_path(os.path.join(folder, os.path.basename(self.path)) if folder else self.path)
         self.keeps = folder is None  # what was evaluated
         self.shows_progress = sys.stderr.isatty()
         if self.sheet_path == self.path:
             raise Trouble("the text has the name of its worksheet")
+        if self.target and not os.path.isdir(os.path.dirname(self.target)):
+            raise Trouble(f"--output: there is no folder {os.path.dirname(self.target)}")
+        if self.target and os.path.isdir(self.target):
+            raise Trouble(f"--output: {self.target} is a folder")
         self.data = read(self.path)
         self.document = Document(text_of(self.data))
         self.fields: Dict[int, Field] = {}
+        self.left_out: Dict[int, int] = {}  # how many bytes of an answer, by the number of its field
+        self.plan: Optional[Plan] = None
         self.pictures = Pictures(self.target or self.path)
+        self.tell_doubts()
+
+    def tell_doubts(self) -> None:
+        """What in the text may not be meant as it stands."""
         for line in self.document.strays:
             self.say(f"line {line}: an answer that is after no fence of a session stays as text")
-        for line, why in self.document.unevaluated:
+        for line, why in self.document.doubts:
             self.say(f"line {line}: {why}")
         if self.document.ignored:
             self.say("options that are ignored: " + ", ".join(f"{name} (line {line})" for name, line in sorted(self.document.ignored.items())))
@@ -99,41 +128,70 @@ class Weave:
             print(f"{CLEAR}{self.name}: line {wanted.line}, {before} of {count} evaluated", end="", file=sys.stderr, flush=True)
 
     def late(self, wanted: Wanted, seconds: float) -> None:
-        self.say(f"line {wanted.line}: {wanted.fence.session}: no answer after {seconds:g} seconds, and it waits on (--seconds N ends a field)")
+        self.say(f"line {wanted.line}: {wanted.session_in_text}: no answer after {seconds:g} seconds, and it waits on (--seconds N ends a field)")
 
     # ---- the worksheet
+
+    def refuse_bare_sessions(self) -> None:
+        """A session that certainly never answers isn't waited for."""
+        for name in dict.fromkeys(fence.session for fence in self.document.fences):
+            why = never_answers(self.document.sessions[name])
+            if why:
+                raise Trouble(f"{name}: {why}")
 
     def evaluated(self, seconds: Optional[float]) -> Plan:
         """Evaluates what is stale, and takes the fields as they are then."""
         if not self.document.fences:
             return Plan(self.document, {}, [])
+        self.refuse_bare_sessions()
+        try:
+            return self._evaluated(seconds)
+        except KeyboardInterrupt:
+            if self.plan:
+                self.say(f"broken off: {self.plan.answered} of {len(self.plan.wanted)} answered" + "; weave it again" * self.keeps)
+            raise
+        except Died as died:
+            if not self.plan or not has_no_space(self.sheet_path):
+                raise
+            kept, all = self.plan.answered, len(self.plan.wanted)
+            are = "is" if kept == 1 else "are"
+            raise Trouble(f"no space left for {os.path.basename(self.sheet_path)}; {kept} of {all} answers {are} kept: make room and weave again") from died
+
+    def _evaluated(self, seconds: Optional[float]) -> Plan:
         if not os.path.lexists(self.sheet_path):
             make(self.sheet_path)
         with opened(self.sheet_path) as sheet:
-            if largest_file(self.sheet_path) > LARGE:
-                sheet.checkpoint()
-            plan = Plan(self.document, sheet.sessions, sheet.fields)
+            self.plan = plan = Plan(self.document, sheet.sessions, sheet.fields)
             fit(sheet, plan)
             for name in plan.words:
                 why = doubt(plan.words[name]) if plan.stale(name) else None
                 if why:
-                    self.say(f"{plan.of(name)[0].fence.session}: {why}")
+                    self.say(f"{plan.of(name)[0].session_in_text}: {why}")
             evaluator = Evaluator(sheet, plan, seconds, self.begun, self.late)
             try:
                 evaluator.evaluate_all()
             finally:
                 print(CLEAR * self.shows_progress, end="", file=sys.stderr, flush=True)
             self.fields = {field.id: field for field in sheet.fields}
+            if self.keeps and plan.is_stale:
+                shorten(sheet, self.sheet_path)
         for name in plan.words if self.keeps else ():
             self.tell(name, plan, evaluator)
         return plan
 
     def tell(self, name: str, plan: Plan, evaluator: Evaluator) -> None:
-        stale, others = len(plan.stale(name)), evaluator.others.get(name, 0)
+        """What was done in a session of the worksheet."""
+        stale, replayed, others = plan.stale(name), evaluator.replayed.get(name, 0), evaluator.others.get(name, 0)
+        shown, kept = plan.of(name)[0].session_in_text, len(plan.of(name)) - len(stale)
+        done = sum(wanted.is_answered for wanted in stale)
+        parts = [f"{kept} kept"] if kept else []
+        parts += [f"{done} evaluated" + " again" * (0 < done <= plan.lost_answers(name))]
+        parts += [f"{len(stale) - done} without an answer"] if done < len(stale) else []
+        parts += [f"{replayed} replayed"] if replayed else []
         if stale:
-            self.say(f"{name}: {len(plan.of(name)) - stale} fields kept, {stale} stale, {evaluator.replayed.get(name, 0)} replayed")
+            self.say(f"{shown}: {', '.join(parts)}")
         if others:
-            self.say(f"{name}: {others} kept answers aren't those of the replay; to have all again, remove {self.sheet_path} and its .alt")
+            self.say(f"{shown}: {others} kept answers aren't those of the replay; to have all again, remove {self.sheet_path} and its .alt")
 
     def as_it_is(self) -> Plan:
         """Takes what the worksheet has, without a change of it."""
@@ -150,6 +208,7 @@ class Weave:
     def shown(self, plan: Plan) -> List[Shown]:
         """What is to stand after each fence. After the first field without an answer nothing more is said of a fence."""
         pieces: Dict[int, List[Piece]] = {fence.begin: [] for fence in self.document.fences}
+        self.left_out = {}
         failed = set()
         for wanted in plan.wanted:
             fence = wanted.fence
@@ -158,7 +217,10 @@ class Weave:
                 pieces[fence.begin].append(Piece(NO_ANSWER, wanted.failure))
             elif fence.begin not in failed and HIDE not in fence.flags and wanted.id is not None:
                 found = pieces_of(self.fields[wanted.id], fence.is_in_container, self.pictures)
-                pieces[fence.begin] += [piece for piece in found if not (TEXTLESS in fence.flags and piece.kind in (ANSWER, FORMULA))]
+                found = [piece for piece in found if not (TEXTLESS in fence.flags and piece.kind in (ANSWER, FORMULA))]
+                short, left_out = cut(found, self.longest)
+                pieces[fence.begin] += short
+                self.left_out.update({wanted.id: left_out} if left_out else {})
         shown = [(fence, tuple(pieces[fence.begin])) for fence in self.document.fences]
         return [Shown(these, bool(these) and FOLD in fence.flags) for fence, these in shown]
 
@@ -194,21 +256,40 @@ class Weave:
     def is_answered(self, plan: Plan) -> bool:
         """The same; says what isn't, and where a figure may be shown too early."""
         failures = [wanted for wanted in plan.wanted if wanted.failure]
-        for wanted in failures:
-            self.say(f"line {wanted.line}: {wanted.fence.session}: {wanted.failure}")
-        self.tell_ends(plan)
+        self.tell_failures(failures, plan)
         self.tell_errors(plan)
+        self.tell_left_out(plan)
         for line in self.early(plan):
             self.say(f"line {line}: its figure is shown before the lines after it draw: {{whole}} at the fence, or `fences: whole` in the front matter, makes them one field")
-        return not failures and not self.document.unevaluated and not self.fails(plan)
+        return not failures and not self.document.is_doubtful and not self.fails(plan)
 
-    def tell_ends(self, plan: Plan) -> None:
-        """Why the interpreters ended that lost a field, where they end so at their start."""
-        ended = {wanted.fence.session: plan.words[wanted.session] for wanted in plan.wanted if wanted.failure == ENDED}
-        for name, words in ended.items():
-            why = None if doubt(words) else why_it_ends(words)
-            if why:
-                self.say(readable(f"{name}: {why}"))
+    def tell_failures(self, failures: List[Wanted], plan: Plan) -> None:
+        """Each cause, once for a session why its interpreter ends at its start, and how many later fields a cause took with it."""
+        later: Dict[str, List[Wanted]] = {}
+        ended: Set[str] = set()
+        for wanted in failures:
+            if wanted.failure == UNTRIED:
+                later.setdefault(wanted.session, []).append(wanted)
+        for wanted in failures:
+            if wanted.failure != UNTRIED:
+                self.say(f"line {wanted.line}: {wanted.session_in_text}: {reason_of(wanted)}")
+            elif wanted is later[wanted.session][0]:
+                self.say(later_ones(later[wanted.session]))
+            if wanted.end == AT_START and wanted.fence.session not in ended:
+                ended.add(wanted.fence.session)
+                self.tell_end(wanted.fence.session, plan.words[wanted.session])
+
+    def tell_end(self, name: str, words: Sequence[str]) -> None:
+        why = None if doubt(words) else why_it_ends(words)
+        if why:
+            self.say(f"{name}: {why}")
+
+    def tell_left_out(self, plan: Plan) -> None:
+        for wanted in plan.wanted:
+            left_out = self.left_out.get(wanted.id or 0)
+            if left_out:
+                held = f": {os.path.basename(self.sheet_path)} has them, and" if self.keeps else ";"
+                self.say(f"line {wanted.line}: {left_out:,} bytes of its answer are left out{held} --longest BYTES shows more")
 
     def tell_errors(self, plan: Plan) -> None:
         """How many answers are errors that nobody wanted, and in which lines their code stands, also where it is hidden."""
@@ -252,13 +333,14 @@ class Weave:
 
     def check(self) -> bool:
         """Whether all is answered that is meant to be evaluated, and nothing would change; says what would."""
+        self.refuse_bare_sessions()
         plan = self.as_it_is()
         for name in plan.words:
             stale = plan.stale(name)
             kept = 0 if not stale or stale[0].fence.is_pure else len(plan.of(name)) - len(stale)
             after = f", after {kept} that would be replayed" if kept else ""
             if stale:
-                print(f"{self.name}: {name}: {len(stale)} fields would be evaluated, from line {stale[0].line} on{after}")
+                print(f"{self.name}: {stale[0].session_in_text}: {len(stale)} fields would be evaluated, from line {stale[0].line} on{after}")
         if plan.is_stale:
             return False
         woven = self.woven(plan)
@@ -268,4 +350,5 @@ class Weave:
         for name in self.pictures.missing():
             print(f"{self.name}: the picture {name} isn't there")
         self.tell_errors(plan)
-        return woven == old and not self.pictures.missing() and not self.document.unevaluated and not self.fails(plan)
+        self.tell_left_out(plan)
+        return woven == old and not self.pictures.missing() and not self.document.is_doubtful and not self.fails(plan)

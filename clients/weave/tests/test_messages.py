@@ -1,0 +1,192 @@
+"""What standard error says: why an interpreter ended and where, what was evaluated, and what keeps a weave from its end."""
+import os
+import signal
+import subprocess
+import sys
+import time
+from typing import List, Optional, Tuple
+from unittest import mock
+
+from .support import COMMAND, PROGRAM, ROOT, Case, answers, command_words, environment, fences
+
+from tmhost_fences.troubles import Trouble
+from tmhost_weave import sheets
+from tmhost_weave.weaving import Weave
+
+
+def line_of(text: str, line: str) -> int:
+    return text.split("\n").index(line) + 1
+
+
+class Messages(Case):
+    def said(self, text: str, *words: str) -> Tuple[int, List[str]]:
+        """The status, and what is said of the text."""
+        self.write(text)
+        done = self.run_weave(*words, self.text)
+        start = f"{self.text}: "
+        lines = done.errors.split("\n")[:-1]
+        self.assertTrue(all(line.startswith(start) for line in lines), lines)
+        return done.status, [line[len(start) :] for line in lines]
+
+
+class Ends(Messages):
+    def script(self, text: str) -> List[str]:
+        self.write(text + "\n", self.place("own.sh"))
+        return ["sh", self.place("own.sh")]
+
+    def test_at_its_start(self) -> None:
+        """Of any words, how they end and what they say, once for a session, directly after the first field that has no answer."""
+        for script, how in (
+            ("echo one >&2; echo boom >&2; exit 3", "ended with status 3: one | boom"), ("exit 0", "ended with status 0"), ("kill -SEGV $$", "was ended by SIGSEGV"),
+            ("for at in 1 2 3 4; do echo $at >&2; done; exit 1", "ended with status 1: 2 | 3 | 4"),
+        ):
+            with self.subTest(script):
+                words = self.script(script)
+                status, said = self.said(self.front("a", x=words) + fences([("x", "u\nv\nw"), ("a", "y"), ("x {pure}", "u")]))
+                woven = self.read()
+                first = line_of(woven, "u")
+                self.assertEqual((status, woven.count("```tmhost-no-answer\nno answer: Ended\n```")), (1, 2))
+                self.assertEqual(said[-4:-1], [
+                    f"line {first}: x: no answer: its interpreter ended at its start", f"x: {' '.join(words)} {how}",
+                    f"2 later fields of x aren't evaluated (lines {first + 1} to {first + 2})",
+                ])
+                self.assertRegex(said[-1], r"\Aline \d+: x \{pure\}: no answer: its interpreter ended at its start\Z")
+                os.remove(self.sheet)
+        status, said = self.said(self.front(x=["sh", self.place("nothere.sh")]) + fences([("x", "u")]))
+        self.assertRegex(said[-1], r"\Ax: sh \S+/nothere\.sh ended with status [1-9]\d*: .*nothere\.sh")
+
+    def test_by_its_code(self) -> None:
+        """Its interpreter isn't started once more."""
+        words = self.script(f"echo start >>{self.place('starts')}\nprintf '\\002verbatim:\\005'\nread line\necho its end >&2\nexit 3")
+        status, said = self.said(self.front(x=words) + fences([("x", "u\nv\nw")]))
+        at = line_of(self.read(), "u")
+        self.assertEqual((status, said), (1, [
+            "x: 0 evaluated, 3 without an answer", f"line {at}: x: no answer: this code ended its interpreter", f"2 later fields of x aren't evaluated (lines {at + 1} to {at + 2})",
+        ]))
+        self.assertEqual(self.read(self.place("starts")), "start\n")
+        status, said = self.said(self.front("a") + fences([("a", "x"), ("a", "die"), ("a", "y")]))
+        at = line_of(self.read(), "die")
+        self.assertEqual((status, said[1:]), (1, [f"line {at}: a: no answer: this code ended its interpreter", f"1 later field of a isn't evaluated (line {line_of(self.read(), 'y')})"]))
+
+    def test_in_a_replay(self) -> None:
+        """The line that ended it is named, which has an answer."""
+        words = self.script(f"printf '\\002verbatim:\\005'; while read line; do [ \"$line\" = v ] && [ -e {self.place('now')} ] && exit 3; printf '\\002verbatim:%s\\005' \"$line\"; done")
+        self.assertEqual(self.said(self.front(x=words) + fences([("x", "u"), ("x", "v"), ("x", "w")])), (0, ["x: 3 evaluated"]))
+        self.write("", self.place("now"))
+        status, said = self.said(self.read().replace("\nw\n```\n", "\nother\n```\n", 1))
+        woven = self.read()
+        self.assertEqual((status, said), (1, [
+            "x: 2 kept, 0 evaluated, 1 without an answer, 2 replayed",
+            f"line {line_of(woven, 'other')}: x: not evaluated, since at the replay of line {line_of(woven, 'v')} that code ended the interpreter",
+        ]))
+        self.assertEqual(answers(woven), ["u", "v"])
+
+    def test_a_session_that_never_answers(self) -> None:
+        """It is refused before anything is evaluated."""
+        text = self.front("a", x=["sh"], y=["bash"]) + fences([("a", "y"), ("x", "u")])
+        why = "x: sh by itself has no blocks for its answers: the words tmhost-sh start it with an adapter"
+        for word in ("--longest=9", "--check", "--test"):
+            self.assertEqual(self.said(text, word), (1, [why]))
+        self.assertEqual((self.read(), sorted(os.listdir(self.folder)), self.logged("a")), (text, ["text.md"], []))
+        self.assertEqual(self.said(self.front("a", x=["sh"]) + fences([("a", "y")])), (0, ["a: 1 evaluated"]))
+
+    def test_what_was_done(self) -> None:
+        """A session that has other words, or pure fences, is said by its name in the text."""
+        blocks = [("a", f"line {at}") for at in range(6)]
+        text = self.front("a") + fences(blocks)
+        self.assertEqual(self.said(text), (0, ["a: 6 evaluated"]))
+        blocks[4] = ("a", "other")
+        self.assertEqual(self.said(self.front("a") + fences(blocks)), (0, ["a: 4 kept, 2 evaluated again, 4 replayed"]))
+        self.assertEqual(self.said(self.front("a") + fences([*blocks, ("a", "more")])), (0, ["a: 6 kept, 1 evaluated, 6 replayed"]))
+        words = [sys.executable, "-u", os.path.join(ROOT, "clients/weave/tests/interpreter.py"), self.place("a.log")]
+        changed = self.front(a=words) + fences([*blocks, ("a {pure}", "pure")])
+        self.write(changed)
+        self.assertEqual(self.run_weave("--check", self.text).output.count(": a: 6 fields would be evaluated"), 1)
+        self.assertEqual(self.said(changed), (0, ["a: 6 evaluated", "a {pure}: 1 evaluated"]))
+        self.assertEqual(self.said(self.read()), (0, []))
+
+
+class Troubles(Messages):
+    def test_a_folder_that_is_not_there(self) -> None:
+        text = self.front("a") + fences([("a", "x")])
+        folder = self.place("none")
+        for words in (["--output", os.path.join(folder, "x.md")], ["--check", "--output", os.path.join(folder, "x.md")]):
+            self.assertEqual(self.said(text, *words), (1, [f"--output: there is no folder {folder}"]))
+        self.assertEqual(self.said(text, "--output", self.folder), (1, [f"--output: {self.folder} is a folder"]))
+        self.assertEqual((self.logged("a"), os.listdir(self.folder)), ([], ["text.md"]))
+
+    def interrupted(self, *words: str, until: Optional[str] = None, after: float = 0.0) -> Tuple[int, str]:
+        """The status and what is said where it is interrupted when a line has come, or after some seconds."""
+        with subprocess.Popen(command_words(*words, self.text), env=environment(), stderr=subprocess.PIPE, stdout=subprocess.PIPE, text=True) as weave:
+            while until and (not os.path.exists(self.place("a.log")) or until not in self.read(self.place("a.log"))):
+                time.sleep(0.02)
+            time.sleep(after)
+            weave.send_signal(signal.SIGINT)
+            errors = weave.communicate(timeout=60)[1]
+        return weave.returncode, errors
+
+    def test_an_interrupt(self) -> None:
+        text = self.front("a") + fences([("a", "x"), ("a", "stuck"), ("a", "y")])
+        self.write(text)
+        self.assertEqual(self.interrupted(until="stuck"), (130, f"{self.text}: broken off: 1 of 3 answered; weave it again\n"))
+        self.assertEqual((self.read(), [field["state"] for field in self.fields()]), (text, ["answered", "empty", "empty"]))
+        self.logged("a")
+        self.assertEqual(self.interrupted("--test", until="stuck"), (130, f"{self.text}: broken off: 1 of 3 answered\n"))
+
+    def test_an_interrupt_while_modules_are_read(self) -> None:
+        """A copy whose first module waits."""
+        self.write("open('a.log', 'w').write('begun')\nimport time\ntime.sleep(60)\n", self.place("signal_test_waits.py"))
+        with open(COMMAND, encoding="utf-8") as file:
+            code = file.read()
+        self.write(code.replace("import tmhost_fences.python", f"sys.path.insert(0, {self.folder!r})\nimport signal_test_waits\nimport tmhost_fences.python"), self.place("copy"))
+        with subprocess.Popen([sys.executable, "-B", self.place("copy")], cwd=self.folder, stderr=subprocess.PIPE, stdout=subprocess.PIPE) as weave:
+            while not os.path.exists(self.place("a.log")):
+                time.sleep(0.02)
+            weave.send_signal(signal.SIGINT)
+            self.assertEqual((weave.communicate(timeout=60), weave.returncode), ((b"", b""), 130))
+
+    def test_a_full_disk(self) -> None:
+        """A limit of the length of files is a fault of the disk, too; whether there is no space says the file system."""
+        self.write("x" * 15_000, self.place("long"))
+        self.write(f"#!/bin/sh\ntrap '' XFSZ\nulimit -f 40\nexec {PROGRAM} \"$@\"\n", self.place("limited"))
+        os.chmod(self.place("limited"), 0o755)
+        text = self.front("a") + fences([("a", f"file {self.place('long')}")] * 3)
+        self.write(text)
+        done = self.run_weave(TMHOST=self.place("limited"))
+        self.assertEqual((done.status, done.errors), (1, f"{self.text}: tmhost ended: fault 21 Disk\n"))
+        full = mock.patch("os.statvfs", return_value=mock.Mock(f_bavail=10, f_frsize=4096))
+        with mock.patch.dict(os.environ, TMHOST=self.place("limited")), full, self.assertRaises(Trouble) as caught:
+            Weave(self.text, None).weave(None)
+        self.assertRegex(str(caught.exception), r"\Ano space left for text\.sheet; (1 of 3 answers is|2 of 3 answers are) kept: make room and weave again\Z")
+        self.assertEqual(self.read(), text)
+        self.assertEqual(self.weave(text).count("x" * 15_000), 3)
+
+    def test_how_full_a_disk_is(self) -> None:
+        for blocks, is_full in ((0, True), (10, True), (10_000, False)):
+            with mock.patch("os.statvfs", return_value=mock.Mock(f_bavail=blocks, f_frsize=4096)):
+                self.assertEqual(sheets.has_no_space(self.sheet), is_full)
+        self.assertFalse(sheets.has_no_space("/nowhere/at/all"))
+
+
+class Shortened(Case):
+    def sizes(self) -> Tuple[int, int]:
+        return os.path.getsize(self.sheet), os.path.getsize(self.sheet + ".alt")
+
+    def test_a_worksheet_does_not_grow_on(self) -> None:
+        """With changes of one long answer, its files have what four of them need, and the answer stays."""
+        self.write("x" * 200_000, self.place("long"))
+        for at in range(12):
+            self.weave(self.front("a") + fences([("a", f"say {at}"), ("a {hide}", f"file {self.place('long')}")]))
+        self.assertLess(sum(self.sizes()), 1_700_000)
+        self.assertEqual([len(field["shown"]) for field in self.fields()], [2, 200_000])
+        before = self.sizes()
+        self.weave(self.read())
+        self.assertEqual(self.sizes(), before)
+
+    def test_what_is_held_counts(self) -> None:
+        """A worksheet whose answers are long is none that is to be written again."""
+        self.write("x" * 1_500_000, self.place("long"))
+        text = self.front("a") + fences([("a", f"file {self.place('long')}"), ("a", "x")])
+        for at in range(2):
+            self.weave(text.replace("\nx\n", f"\nx {at}\n"))
+        self.assertEqual(self.sizes()[1], 0)
