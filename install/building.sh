@@ -40,14 +40,17 @@ end_with_the_starter() {
     [ "$parent" = "$PPID" ] || { echo "tmhost: what started the build has ended, and so does the build" >&2; exit 1; }
 }
 
-# Says how far a build is: on a terminal on a line that is written over, else where that has changed.
+# Says how far a build is, and how long it has taken: on a terminal on a line that is written over, else where it has changed, and each minute.
 said=
+said_at=0
+every=60
 say_progress() {
-    local line="tmhost: $1"
+    local line="tmhost: $1" taken="($((SECONDS / 60)) min $((SECONDS % 60)) s)"
     if [ -t 2 ]; then
-        printf '\r\033[K%.*s' $((${COLUMNS:-80} - 1)) "$line ($((SECONDS / 60)) min $((SECONDS % 60)) s)" >&2
-    elif [ "$line" != "$said" ]; then
-        echo "$line" >&2
+        printf '\r\033[K%.*s' $((${COLUMNS:-80} - 1)) "$line $taken" >&2
+    elif [ "$line" != "$said" ] || [ $((SECONDS - said_at)) -ge $every ]; then
+        echo "$line $taken" >&2
+        said_at=$SECONDS
     fi
     said=$line
 }

@@ -1,5 +1,6 @@
 """Cells of more bytes than a field holds, and what in cells of Python is IPython's own."""
 import ast
+import os
 import random
 import unittest
 
@@ -102,10 +103,10 @@ class Cells(Case):
         long = "\n\n".join(f"def f{number}():\n    return '{'y' * 1500}'" for number in range(4)) + "\nf3()[:2]"
         never = f"x = '{'z' * 5000}'"
         document = notebook(code("1"), code(long), code(never), code("2"))
-        done = self.do("--script", data=document)
+        done = self.do("--script", "--lossy", data=document)
         self.assertIn("cell 2 is cut between statements into 2 fields: it has 6,129 bytes as an input, and a field has at most 4,095\n", done.errors)
         self.assertIn("cell 3 is left out, since a statement of it is too long: it has 5,006 bytes as an input, and a field has at most 4,095\n", done.errors)
-        inputs = [given for _, given in self.inputs(document)]
+        inputs = [given for _, given in self.inputs(document, "--lossy")]
         self.assertEqual((len(inputs), inputs[0], inputs[-1]), (4, "1", "2"))
         self.assertEqual(inputs[2].split(LINE_END)[-1], "f3()[:2]")
 
@@ -113,9 +114,35 @@ class Cells(Case):
         """Of a block with a statement that no field can hold nothing is taken, since what stands after it may need it."""
         long = "f() = {\n" + f"{FILL};\n" * 3 + "}"
         document = f"a\n\n```gp\nx = 1\n{long}\n2\n```\n\n```gp\n3\n```\n"
-        self.assertEqual(self.inputs(document, form="markdown"), [("prose", "a"), ("gp", "3")])
+        self.assertEqual(self.inputs(document, "--lossy", form="markdown"), [("prose", "a"), ("gp", "3")])
         said = "the block in line 3, its line 2 is left out, since a statement of it is too long: it has 5,"
-        self.assertIn(said, self.do("--script", "--format", "markdown", data=document).errors)
+        self.assertIn(said, self.do("--script", "--lossy", "--format", "markdown", data=document).errors)
+        self.refused(document, "the block in line 3, its line 2 can't be taken, since a statement", form="markdown")
+
+    def test_code_that_no_field_can_hold(self) -> None:
+        """Nothing is made without it, since other cells may need it, but where that is wanted."""
+        methods = "".join(f"    def method_{number}(self, x):\n        return x + {number}\n" for number in range(120))
+        document = notebook(code(f"class Big:\n{methods}"), code("Big().method_3(4)"))
+        for words in ("--script", "new"):
+            done = self.do("--format", "notebook", words, data=document)
+            first, second = done.errors.splitlines()
+            self.assertEqual((done.status, done.out, os.listdir(self.folder)), (1, "", []))
+            self.assertEqual(first, "tmhost-import: cell 1 can't be taken, since a statement of it is too long: it has 6,510 bytes as an input, and a field has at most 4,095")
+            self.assertRegex(second, "^tmhost-import: nothing is made, since .*: make shorter statements of it .*; --lossy leaves it out$")
+        done = self.do("--script", "--lossy", "--format", "notebook", data=document)
+        self.assertEqual(done.errors, "tmhost-import: cell 1 is left out, since a statement of it is too long: it has 6,510 bytes as an input, and a field has at most 4,095\n")
+        self.assertEqual((done.status, self.inputs(document, "--lossy")), (0, [("python3", "Big().method_3(4)")]))
+        many = self.do("--format", "notebook", "new", data=notebook(*[code(f"x = '{'y' * 5000}'")] * 15)).errors.splitlines()
+        self.assertEqual((len(many), many[10]), (12, "tmhost-import: and 5 more like these"))
+
+    def test_what_is_left_out_and_no_code(self) -> None:
+        """Prose that no field can hold, outputs and lines of IPython keep nothing from being made."""
+        long = {"cell_type": "markdown", "metadata": {}, "source": "x" * 5000}
+        outputs = [{"output_type": "stream", "name": "stdout", "text": "y" * 5000}]
+        done = self.do("--script", data=notebook(long, code("%matplotlib inline\nx", outputs=outputs)))
+        self.assertEqual(done.status, 0, done.errors)
+        self.assertIn("cell 1 is left out: a paragraph, an item or a fence of it has 5,000 bytes", done.errors)
+        self.assertTrue(done.out.endswith("new 0 python3 x\n"), done.out)
 
     @needs_program
     def test_what_is_cut_is_evaluated_as_before(self) -> None:

@@ -31,7 +31,7 @@ REFUSED: dict[str, tuple[str | bytes, str]] = {
     "a control character in a later line": (notebook(code("a\nb\x1bc")), "cell 1: no field can hold the control character U+001B in line 2 of 2"),
     "a carriage return alone": (notebook(code("a\rb")), "U+000D"),
     "half of a character": (notebook(code("x")).replace('"x"', r'"\ud800"'), "cell 1: U+D800 is half of a character"),
-    "nothing but an input of 4,096 bytes": (notebook(code("é" * 2048)), "cell 1 is left out, since a statement of it is too long: it has 4,096 bytes"),
+    "nothing but an input of 4,096 bytes": (notebook(code("é" * 2048)), "cell 1 can't be taken, since a statement of it is too long: it has 4,096 bytes"),
     "10,001 code cells": (notebook(*[code("x")] * 10_001), "cell 10001"),
     "a session with a space": (notebook(code("x", "a b")), "cell 1: in its metadata tmhost.session is 'a b'"),
     "a session of 4,000 bytes": (notebook(code("x", "a" * 4000)), "cell 1: in its metadata tmhost.session is 'aaaa"),

@@ -46,7 +46,7 @@ FENCES: dict[str, list[tuple[int, str, list[str]]]] = {
     "a\n1. ```x\n": [(2, "x", [])],
     "```x\r\n1\r2\r\n```": [(1, "x", ["1", "2"])],
 }
-MARKDOWN = "```{python, echo=FALSE}\na\n\n  b\n```\n\n- ~~~ {.R .numberLines}\n  1\n  ~~~\n\n```json\n{}\n```\n\n```\nout\n```\n\n``` Py x=1\nc\n```\n"
+MARKDOWN = "```{python, echo=FALSE}\na\n\n  b\n```\n\n- ~~~ {.R .numberLines}\n  1\n  ~~~\n\n```json\n{}\n```\n\ntext\n\n```\nout\n```\n\n``` Py x=1\nc\n```\n"
 
 
 class Languages(Case):

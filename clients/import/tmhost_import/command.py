@@ -1,9 +1,11 @@
 """The command line of tmhost-import."""
 import argparse
 import os
+import shlex
 import signal
 import sys
 
+from tmhost.version import ShowVersion
 from tmhost_fences.troubles import Trouble
 
 from . import markdown, notebook, org, texmacs
@@ -17,6 +19,10 @@ MOST_KINDS = 10  # of what was left out, in a message
 FORMATS = ("notebook", "org", "markdown", "texmacs")
 CHUNKS = (".rmd", ".qmd")  # of texts in which code is in chunks, and other blocks are shown
 SUFFIXES = {".ipynb": "notebook", ".org": "org", ".md": "markdown", ".markdown": "markdown", ".rmd": "markdown", ".qmd": "markdown", ".tm": "texmacs"}
+LOST = (
+    "nothing is made, since later code may need this: make shorter statements of it (of a class two, of which one inherits), or put it into a file "
+    "that the cell loads; --lossy leaves it out"
+)
 NO_MARKDOWN = "the text of an Org file isn't: make Markdown of it first (pandoc --from org --to gfm)"
 ABOUT = "Makes a new worksheet of tmhost from a Jupyter notebook, an Org file, a CommonMark text with fences or a document of TeXmacs."
 NOTES = f"""
@@ -41,8 +47,12 @@ def arguments(words: list[str]) -> argparse.Namespace:
     split.add_argument("--split", action="store_true", default=None, help="a field for each line with those that go on from it, also of cells and of Org")
     split.add_argument("--whole", action="store_false", dest="split", help="a field for each fence, also of Markdown")
     parser.add_argument("--prose", action=argparse.BooleanOptionalAction, help="take the text of a notebook or of Markdown, too (that is the default)")
+    parser.add_argument("--lossy", action="store_true", help="leave out code with a statement of more than 4,095 bytes; without it nothing is made then")
     parser.add_argument("--script", action="store_true", help="write the script in place of making a worksheet")
+    parser.add_argument("--version", action=ShowVersion)
     given = parser.parse_intermixed_args(words)
+    if not given.script and len(given.paths) == 1 and is_document(given.paths[0]):
+        parser.error(f"name the new worksheet, too: tmhost-import {shlex.quote(given.paths[0])} NEW")
     if not (0 if given.script else 1) <= len(given.paths) <= (1 if given.script else 2):
         parser.error("with --script at most a DOCUMENT is wanted" if given.script else "a DOCUMENT and NEW are wanted, or NEW alone")
     try:
@@ -52,12 +62,21 @@ def arguments(words: list[str]) -> argparse.Namespace:
     return given
 
 
+def format_by_name(path: str) -> str | None:
+    return SUFFIXES.get(os.path.splitext(path)[1].lower())
+
+
+def is_document(path: str) -> bool:
+    """Whether it is named as a document is, and so hardly as a new worksheet."""
+    return format_by_name(path) is not None
+
+
 def read_bytes(path: str) -> bytes:
     try:
         with open(0 if path == "-" else path, "rb", closefd=path != "-") as file:
             data = file.read(LONGEST_DOCUMENT + 1)
     except OSError as error:
-        raise Trouble(f"it can't be read: {error.strerror}") from error
+        raise Trouble(f"{'standard input' if path == '-' else ascii(path)} can't be read: {error.strerror}") from error
     if len(data) > LONGEST_DOCUMENT:
         raise Trouble(f"it has more than {LONGEST_DOCUMENT:,} bytes")
     return data
@@ -73,7 +92,7 @@ def text_of(data: bytes) -> str:
 
 def format_of(path: str, text: str) -> str:
     """The format by the name, else by what it begins with."""
-    found = SUFFIXES.get(os.path.splitext(path)[1].lower())
+    found = format_by_name(path)
     if found is None and text.lstrip(" \t\r\n").startswith("{"):
         found = "notebook"
     if found is None:
@@ -83,7 +102,7 @@ def format_of(path: str, text: str) -> str:
 
 def is_texmacs(given: argparse.Namespace, path: str) -> bool:
     """Its letters aren't UTF-8."""
-    return (given.format or SUFFIXES.get(os.path.splitext(path)[1].lower())) == "texmacs"
+    return (given.format or format_by_name(path)) == "texmacs"
 
 
 def read(given: argparse.Namespace, path: str) -> Document:
@@ -119,7 +138,7 @@ def tell(document: Document, sheet: Sheet) -> None:
     more = [f"{len(kinds) - MOST_KINDS} kinds more"] if len(kinds) > MOST_KINDS else []
     if kinds:
         say("left out: " + "; ".join(kinds[:MOST_KINDS] + more))
-    say(*document.notes, *sheet.sessions.renamed(), *reported(sheet.long))
+    say(*document.notes, *sheet.sessions.renamed(), *reported([*sheet.long, *(lost.reported("is left out") for lost in sheet.lost)]))
     if sheet.cuts:
         say(f"texts that are several fields of prose, cut at empty lines: {sheet.cuts}")
     if count := sheet.count_of_many_lines():
@@ -145,6 +164,8 @@ def do(given: argparse.Namespace) -> None:
         refuse_taken(new)
     document = read(given, path)
     sheet = Sheet(document, {**document.words, **given.session}, given.split, given.prose is not False)
+    if sheet.lost and not given.lossy:
+        raise Trouble(*reported([lost.reported("can't be taken") for lost in sheet.lost]), LOST)
     tell(document, sheet)
     if not sheet.fields:
         raise Trouble("there is nothing in it to make a field of")

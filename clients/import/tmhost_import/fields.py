@@ -32,6 +32,17 @@ class Piece:
     text: str
 
 
+@dataclasses.dataclass(frozen=True)
+class Lost:
+    """Code that can't be cut into pieces that fields can hold: its place in the document, and its size."""
+
+    place: str
+    size: str
+
+    def reported(self, what: str) -> str:
+        return f"{self.place} {what}, since a statement of it is too long: it has {self.size}"
+
+
 def too_long(text: str) -> str:
     return f"{size_of(text):,} bytes as an input, and a field has at most {LONGEST_INPUT:,}"
 
@@ -61,6 +72,7 @@ class Sheet:
         self.fields: list[Field] = []
         self.cuts = 0  # texts of prose that became several fields
         self.long: list[str] = []  # what is reported of cells that no field could hold
+        self.lost: list[Lost] = []
         self.troubles: list[str] = []
         self.unknown: set[str] = set()  # sessions for which there is no interpreter
         self.left_out = document.left_out.copy()
@@ -125,8 +137,10 @@ class Sheet:
             self.long.append(f"{piece.place} is left out: a paragraph, an item or a fence of it has {too_long(piece.text)}")
             return []
         parts = cutting.cut(piece.text, self.language(session)) or []
-        done = f"cut between statements into {len(parts)} fields" if parts else "left out, since a statement of it is too long"
-        self.long.append(f"{piece.place} is {done}: it has {too_long(piece.text)}")
+        if parts:
+            self.long.append(f"{piece.place} is cut between statements into {len(parts)} fields: it has {too_long(piece.text)}")
+        else:
+            self.lost.append(Lost(piece.place, too_long(piece.text)))
         return parts
 
     def add_fields(self, cell: Cell, session: str) -> None:

@@ -14,14 +14,23 @@ from typing import Iterator, List, NoReturn, Optional, Union
 from tmhost import Died, InUse, ProtocolError, TimedOut
 from tmhost.errors import plain
 from tmhost.program import show_building
+from tmhost.version import ShowVersion
 
 from . import packing
 from .book import Book
 from .files import Files
 from .folder import NotDone
 from .looking import MaybeLooking
+from .running import running
 from .server import Server, served
 from .shelf import Alone, Shelf
+
+NOT_A_SHEET = 31
+# What makes a worksheet, or the like, of a file by the end of its name.
+BY_END = {
+    **dict.fromkeys((".md", ".markdown", ".rmd", ".qmd"), "for a Markdown text use tmhost-weave or tmhost-import"),
+    **dict.fromkeys((".ipynb", ".org", ".tm"), "tmhost-import makes one of it"),
+}
 
 
 def words() -> argparse.ArgumentParser:
@@ -40,6 +49,7 @@ def words() -> argparse.ArgumentParser:
     parser.add_argument("--look", action="store_true", help="show a worksheet that another program has open, and change nothing; a folder's page does so by itself")
     parser.add_argument("--port", type=int, default=0, metavar="N", help="the port on 127.0.0.1; if it isn't given the one that the worksheet had "
                         "last, or one that is free")
+    parser.add_argument("--version", action=ShowVersion)
     parser.add_argument("--libraries", default="/usr/share", metavar="FOLDER", help="where KaTeX and markdown-it are looked for (/usr/share)")
     return parser
 
@@ -47,6 +57,21 @@ def words() -> argparse.ArgumentParser:
 def tell(text: str) -> int:
     print(f"tmhost-notebook: {text}", file=sys.stderr)
     return 1
+
+
+def why_in_use(path: str) -> str:
+    """Who has a worksheet open, as a user can go there."""
+    place = running(path)
+    who = f"it is open at {place}" if place else "another program, as a second tmhost-notebook, has it open"
+    return f"{path} is in use: {who}; --look shows it as it is on the disk"
+
+
+def why_not(path: str, error: Exception) -> str:
+    """Why a worksheet can't be opened."""
+    if isinstance(error, Died) and error.number == NOT_A_SHEET:
+        hint = BY_END.get(os.path.splitext(path)[1].lower(), "tmhost help faults says more (31 NotASheet)")
+        return f"{path} is no worksheet; {hint}"
+    return f"{path} can't be opened: {plain(error)}"
 
 
 @contextlib.contextmanager
@@ -118,9 +143,9 @@ def main(given: Optional[List[str]] = None) -> int:
     try:
         place = shelf_of(asked.sheet) if os.path.isdir(asked.sheet) else alone(asked.sheet, asked.look)
     except InUse:
-        return tell(f"{asked.sheet} is in use: another program, as a second tmhost-notebook, has it open; --look shows it as it is on the disk")
+        return tell(why_in_use(asked.sheet))
     except (Died, ProtocolError, TimedOut, OSError) as error:
-        return tell(f"{asked.sheet} can't be opened: {plain(error)}")
+        return tell(why_not(asked.sheet, error))
     try:
         server = served(place, asked.port, Files(asked.libraries))
     except (OSError, OverflowError) as error:

@@ -23,7 +23,7 @@ SECONDS = 120.0  # in which everything comes, beside other work too
 LINE_END = "\u2028"
 
 sys.path[:0] = [os.path.join(ROOT, "clients/python"), os.path.join(ROOT, "clients")]
-from tested import PROGRAM, WHY, children_of as children_of, fields_of, heed_interrupts as heed_interrupts  # noqa: E402
+from tested import PROGRAM as PROGRAM, WHY, children_of as children_of, fields_of, heed_interrupts as heed_interrupts  # noqa: E402
 from tmhost import Field, Worksheet  # noqa: E402
 
 

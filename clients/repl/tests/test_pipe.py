@@ -7,7 +7,7 @@ import sys
 import time
 import unittest
 
-from .support import COMMAND, INTERPRETER, LINE_END, ROOT, Case, children_of, environment, heed_interrupts
+from .support import COMMAND, INTERPRETER, LINE_END, PROGRAM, ROOT, Case, children_of, environment, heed_interrupts
 
 
 class Pipe(Case):
@@ -106,6 +106,27 @@ class Pipe(Case):
             self.assertEqual((status, out, bool(errors)), (2, "", True), words)
         self.assertEqual(self.fields(), [])
 
+    def test_commands_that_are_misspelled(self) -> None:
+        """They are no fields: each says which command is meant, and how it is sent all the same. Other words go to the interpreter."""
+        self.make()
+        status, out, errors = self.pipe("%sesion t\n%lsit\n %sesion\n%ls\n%store\n%\n%sessions x\n", self.sheet, "t")
+        self.assertEqual((status, out), (1, " %sesion\n%ls\n%store\n%\n"))
+        meant = [f"{given}: is {command} meant? A space in front sends it" for given, command in (("%sesion", "%session"), ("%lsit", "%list"))]
+        self.assertEqual(errors.splitlines(), [f"tmhost-repl: {said}" for said in (*meant, "it is %sessions")])
+        self.assertEqual([field.input for field in self.fields()], [" %sesion", "%ls", "%store", "%"])
+
+    def test_the_version(self) -> None:
+        said = subprocess.run([PROGRAM, "--version"], stdout=subprocess.PIPE, text=True, check=True).stdout
+        self.assertEqual(self.pipe("", "--version"), (0, f"tmhost-repl: {said}", ""))
+
+    def test_an_interrupt_while_it_reads_its_modules(self) -> None:
+        """It ends in silence. A module that it imports sends the signal."""
+        with open(os.path.join(self.folder, "argparse.py"), "w", encoding="ascii") as file:
+            file.write("import os, signal, time\nos.kill(os.getpid(), signal.SIGINT)\ntime.sleep(60)\n")
+        words = [sys.executable, "-B", COMMAND, self.sheet]
+        done = subprocess.run(words, capture_output=True, env=environment(PYTHONPATH=self.folder), preexec_fn=heed_interrupts)
+        self.assertEqual((done.returncode, done.stdout, done.stderr), (130, b"", b""))
+
     def test_no_worksheet(self) -> None:
         with open(self.sheet, "w", encoding="ascii") as file:
             file.write("this is no worksheet at all")
@@ -185,7 +206,7 @@ class Commands(Case):
     def test_what_is_no_command(self) -> None:
         """It goes to the interpreter."""
         self.make()
-        self.assertEqual(self.pipe("%1\n%lists\n %list\n%list\\\nx\n%\n", self.sheet, "t"), (0, "%1\n%lists\n %list\n%list\nx\n%\n", ""))
+        self.assertEqual(self.pipe("%1\n%listing\n %list\n%list\\\nx\n%\n", self.sheet, "t"), (0, "%1\n%listing\n %list\n%list\nx\n%\n", ""))
 
     def test_mistakes(self) -> None:
         self.make(False, "a")

@@ -1,5 +1,6 @@
 """The lines that are for the program itself. Any other line is for the interpreter, also where it begins with `%`."""
 
+import difflib
 from typing import Callable, Dict, List, Optional, Tuple, Union
 
 from tmhost import BadLine, Cell, Refused, Worksheet
@@ -13,6 +14,8 @@ from .texts import harmless
 
 # The words of a session of prose (clients/notebook/README.md): its program ends at once, and its fields are never evaluated.
 PROSE = ("true",)
+# How near, by difflib's measure, a word is to a command where that is meant: `%lsit` and `%form` are, `%ls`, `%store` and `%exit` aren't.
+NEAR = 0.8
 
 
 class Mistake(Exception):
@@ -48,6 +51,12 @@ class Commands:
 
     def has(self, text: str) -> bool:
         return text.startswith("%") and "\n" not in text and text.split()[0] in self._table
+
+    def meant(self, text: str) -> Optional[str]:
+        """The command of which the first word of a text is a misspelling by a letter or two, where it is none."""
+        if not text.startswith("%") or "\n" in text or self.has(text):
+            return None
+        return next(iter(difflib.get_close_matches(text.split()[0], self._table, 1, NEAR)), None)
 
     def do(self, text: str) -> None:
         name, *words = text.split()

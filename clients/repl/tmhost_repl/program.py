@@ -10,6 +10,7 @@ from typing import List, Optional
 from tmhost import BadLine, Refused, TmhostError, Worksheet
 from tmhost.errors import plain
 from tmhost.program import show_building
+from tmhost.version import ShowVersion
 
 from .commands import PROSE, Commands, Mistake, ensure, explained
 from .completion import Draft
@@ -27,6 +28,7 @@ def options(words: List[str]) -> argparse.Namespace:
         epilog="The program is the one that TMHOST names, tmhost on PATH, or the one that was built or installed with this. In a pipe the status is 1 where an answer was lost. %help, as "
         "a line, tells what else can be done.",
     )
+    parser.add_argument("--version", action=ShowVersion)
     parser.add_argument("--create", action="store_true", help="make the worksheet where it isn't there, without a question")
     parser.add_argument("--tab", action="store_true", help="the session that WORDS make answers completions at TAB")
     parser.add_argument("sheet", metavar="SHEET", help="the file of the worksheet")
@@ -93,6 +95,9 @@ class Repl:
             if self.commands.has(text):
                 self.draft.give_up()
                 self.commands.do(text)
+            elif meant := self.commands.meant(text):
+                self.draft.give_up()
+                raise Mistake(f"{text.split()[0]}: is {meant} meant? A space in front sends it")
             else:
                 self.evaluator.evaluate(self.draft.take(self.commands.session, text))
         except (Refused, BadLine) as refused:
