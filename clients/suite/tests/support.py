@@ -1,11 +1,14 @@
 """What the tests share: suites in a folder of their own, and the command over the real program."""
+import contextlib
 import json
 import os
 import re
 import shutil
+import signal
 import subprocess
 import sys
 import tempfile
+import time
 from typing import Any, Dict, List, NamedTuple
 
 HERE = os.path.dirname(os.path.realpath(__file__))
@@ -71,6 +74,41 @@ class Case(InFolder):
             return self.read(self.place(name + ".log")).splitlines()
         except FileNotFoundError:
             return []
+
+    def noted(self) -> int:
+        """Of how many cases the worksheet of the run has what came."""
+        count = 0
+        for end in (".run", ".run.alt"):
+            with contextlib.suppress(FileNotFoundError), open(self.path + end, "rb") as file:
+                count += file.read().count(b'"verdict"')
+        return count
+
+    def waiting(self) -> str:
+        """A case that waits until `cut_off` was there."""
+        return case(f"until {self.place('go')}", None, "b {may_fail it waits}")
+
+    def cut_off(self, done: int) -> None:
+        """Runs the suite until so many of its cases are done, and kills the run and all that it started."""
+        run = subprocess.Popen(words(self.path), stdout=subprocess.DEVNULL, stderr=subprocess.DEVNULL, env=environment(), cwd=self.folder, start_new_session=True)
+        until = time.monotonic() + 60
+        while self.noted() < done and time.monotonic() < until:
+            time.sleep(0.05)
+        os.killpg(run.pid, signal.SIGKILL)
+        run.wait()
+        self.assertEqual(self.noted(), done)
+        self.make_file("go")
+
+    def make_file(self, name: str, text: str = "") -> str:
+        os.makedirs(os.path.dirname(self.place(name)), exist_ok=True)
+        with open(self.place(name), "w", encoding="utf-8", newline="") as file:
+            file.write(text)
+        return self.place(name)
+
+    def wait_for(self, name: str, line: str) -> None:
+        """Waits until this is the last line that an interpreter got."""
+        until = time.monotonic() + 60
+        while self.log(name)[-1:] != [line] and time.monotonic() < until:
+            time.sleep(0.05)
 
     def run_suite(self, *more: str, given: str = "", **variables: str) -> Outcome:
         ran = subprocess.run(words(*more), input=given, capture_output=True, text=True, env={**environment(), **variables}, cwd=self.folder, timeout=LIMIT)

@@ -27,7 +27,6 @@ class Errors(Case):
         self.assertEqual([one["verdict"] for one in found], ["ok", "ok", "differs", "differs", "differs", "ok"], self.outcome.output)
         self.assertEqual([(one["came"], one["error"]) for one in found][3:], [("2", "no x"), ("no x", ""), ("2\nno x", "")])
         self.assertIn("  --- wanted error\n  +++ came error\n  @@ -1 +1 @@\n  -no y\n  +no x\n", self.outcome.output)
-        self.assertEqual([one["verdict"] for one in self.objects(self.path, "--resume")], [one["verdict"] for one in found])
 
     def test_of_a_whole_text(self) -> None:
         self.write(case("error 2|no x", "2"), case("say 1", "1"), apart("error |no", None, "no"), more="errors: apart\n")
@@ -44,9 +43,10 @@ class Errors(Case):
 
     def test_a_long_one_goes_on(self) -> None:
         said = "\U0001f600" * 900
-        self.write(apart(f"error 1|{said}\nstuck", "1\n? over 5 s", said), more="timeout: 5\n")
-        self.assertEqual(self.verdicts(self.path), ["ok"], self.outcome.output)
-        self.assertEqual(self.verdicts(self.path, "--resume"), ["ok"])
+        self.write(apart("error 2|no y", "2", "no x"), apart(f"error 1|{said}\nstuck", "1\n? over 5 s", said).replace("````a", "````a {timeout 5}", 1), self.waiting())
+        self.cut_off(2)
+        self.assertEqual(self.verdicts(self.path, "--resume"), ["differs", "ok", "xfail"], self.outcome.output)
+        self.assertIn("goes on after 2 of 3 cases", self.outcome.output)
 
 
 class Texts(unittest.TestCase):

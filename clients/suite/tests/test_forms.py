@@ -214,6 +214,17 @@ class Notebooks(Forms):
             self.assertNotIn(prose, text)
             self.assertEqual(self.verdicts(self.put("a.md", text)), ["ok"], text)
 
+    def test_prose_with_a_fence_that_looks_like_a_case_stays(self) -> None:
+        """A suite asks whether a case is meant, so the text says that none is."""
+        path = self.notebook("python", [("1", [self.result("1")])])
+        whole = json.loads(self.read(path))
+        whole["cells"].insert(0, {"cell_type": "markdown", "metadata": {}, "source": "So:\n\n```python\n2\n```"})
+        with open(path, "w", encoding="utf-8") as file:
+            json.dump(whole, file)
+        text = self.convert(path, ": fences of its prose whose words look like py have {literal} now, which says that they are text")
+        self.assertIn("So:\n\n```python {literal}\n2\n```\n", text)
+        self.assertEqual(self.verdicts(self.put("a.md", text)), ["ok"], text)
+
     def test_the_rest_of_the_prose_stays(self) -> None:
         path = self.notebook("python", [("1", [self.result("1")]), ("2", []), ("3", [self.result("3")])])
         whole = json.loads(self.read(path))
@@ -273,11 +284,10 @@ class Cram(Forms):
 
     def test_a_folder_of_its_own(self) -> None:
         """Nothing is left beside the suite, and nothing of the folder in which it ran."""
-        names = ["a.t", "a.t.run", "a.t.run.alt", "report.jsonl"]
         kept = self.place("folder")
         path = self.put("a.t", f'  $ touch x; ls\n  x\n  $ echo $TESTFILE $TZ "$TESTDIR"\n  a.t GMT {self.folder}\n  $ pwd >{kept}\n')
         self.assertEqual(self.verdicts(path), ["ok"] * 3, self.outcome.output)
-        self.assertEqual(sorted(os.listdir(self.folder)), [*names[:3], "folder", names[3]])
+        self.assertEqual(sorted(os.listdir(self.folder)), ["a.t", "folder", "report.jsonl"])
         self.assertFalse(os.path.exists(self.read(kept).strip()))
 
     def test_a_case_is_a_command(self) -> None:

@@ -29,7 +29,8 @@ class Troubles(Case):
         for path, text in zip(self.broken, BROKEN.values()):
             with open(path, "w", encoding="utf-8") as file:
                 file.write(text)
-        self.broken += [self.place("gone.md"), self.folder]
+        os.mkdir(self.place("empty"))
+        self.broken += [self.place("gone.md"), self.place("empty")]
         self.write(case("say 1", "1"))
 
     def test_they_take_no_other_with_them(self) -> None:

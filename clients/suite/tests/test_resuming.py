@@ -8,11 +8,12 @@ import subprocess
 import sys
 import time
 from typing import List, Tuple
+from unittest import mock
 
-from .support import PROGRAM, Case, case, environment, heed_interrupts, words  # the module puts the packages on the path
+from .support import Case, case, environment, heed_interrupts, words  # the module puts the packages on the path
 from .values import expected
 
-from tmhost import Worksheet
+from tmhost_suite.kept import opened
 
 # It writes two long texts in turn, as `--accept` writes one.
 WRITER = "import itertools, sys; from tmhost_weave.files import put; print('writes', flush=True); [put(sys.argv[1], letter * 300000) for letter in itertools.cycle([b'a', b'b'])]"
@@ -41,7 +42,7 @@ class Resuming(Case):
             parts.append(case(line, "other" if at == self.wrong else value, info))
         self.write(*parts)
 
-    def cut_off(self, *more: str) -> None:
+    def cut_off_somewhere(self, *more: str) -> None:
         """Runs it, and kills the run and all that it started at a random moment."""
         run = subprocess.Popen(
             words(self.path, "--jobs", "2", *more), stdout=subprocess.DEVNULL, stderr=subprocess.DEVNULL, env=environment(), cwd=self.folder, start_new_session=True
@@ -56,9 +57,9 @@ class Resuming(Case):
             for end in (".run", ".run.alt"):
                 with contextlib.suppress(FileNotFoundError):
                     os.unlink(self.path + end)
-            self.cut_off()
+            self.cut_off_somewhere()
             for _ in range(self.random.randint(0, 2)):
-                self.cut_off("--resume")
+                self.cut_off_somewhere("--resume")
             found = self.verdicts(self.path, "--resume")
             self.assertEqual(found, ["differs" if at == self.wrong else "ok" for at in range(len(found))], self.read())
 
@@ -70,18 +71,56 @@ class Resuming(Case):
         self.assertEqual([name for name in os.listdir(self.folder) if ".new" in name], [])
 
     def test_what_is_done_is_not_done_again(self) -> None:
-        self.write(case("say 1", "1"), case("say 2", "2"), case("say 3", "3", "b"))
-        self.assertEqual(self.verdicts(self.path), ["ok"] * 3)
+        self.write(case("say 1", "1"), case("say 2", "2"), self.waiting())
+        self.cut_off(2)
         os.unlink(self.place("a.log"))
-        self.assertEqual(self.verdicts(self.path, "--resume"), ["ok"] * 3)
+        self.assertEqual(self.verdicts(self.path, "--resume"), ["ok", "ok", "xfail"])
         self.assertEqual(self.log("a"), [])
-        self.assertIn("goes on after 3 of 3 cases", self.outcome.output)
+        self.assertIn("goes on after 2 of 3 cases", self.outcome.output)
+
+    def test_a_run_that_came_to_its_end_is_run_again(self) -> None:
+        """What it found may not hold any more, so nothing of it is reported again."""
+        self.write(case("say 1", "1"), case("say 2", "3"))
+        for _ in range(2):
+            self.run_suite(self.path)
+            os.unlink(self.place("a.log"))
+            self.assertEqual(self.verdicts(self.path, "--resume"), ["ok", "differs"])
+            self.assertEqual(self.log("a"), ["say 1", "say 2"])
+            self.assertIn(f"{self.path}: its last run came to its end, so it is run again\n", self.outcome.output)
+        # Where all was as wanted nothing is kept.
+        self.write(case("say 1", "1"))
+        for _ in range(2):
+            self.assertEqual(self.verdicts(self.path), ["ok"])
+        os.unlink(self.place("a.log"))
+        self.assertEqual(self.verdicts(self.path, "--resume"), ["ok"])
+        self.assertEqual(self.log("a"), ["say 1"])
+        self.assertIn(f"{self.path}: no run of it was cut off, so it begins\n", self.outcome.output)
+
+    def test_one_of_several_suites_is_cut_off(self) -> None:
+        """The run as a whole was, so what the others came to isn't evaluated again."""
+        other = self.place("other.md")
+        self.write(case("say 1", "1"), path=other)
+        self.write(case("say 2", "2"), self.waiting())
+        whole = subprocess.Popen(words(other, self.path, "--jobs", "1"), stdout=subprocess.DEVNULL, stderr=subprocess.DEVNULL, env=environment(), start_new_session=True)
+        self.wait_for("b", f"until {self.place('go')}")
+        os.killpg(whole.pid, signal.SIGKILL)
+        whole.wait()
+        self.make_file("go")
+        self.assertEqual(self.verdicts(other, self.path, "--resume"), ["ok", "ok", "xfail"])
+        self.assertEqual(self.log("a").count("say 1"), 1)
+        self.assertIn(f"{other}: goes on after 1 of 1 cases\n", self.outcome.output)
+
+    def test_a_run_that_its_first_failure_ended_goes_on(self) -> None:
+        self.write(case("say 1", "2"), case("say 3", "3"))
+        self.assertEqual(self.verdicts(self.path, "--fail-fast"), ["differs"])
+        self.assertEqual(self.verdicts(self.path, "--resume"), ["differs", "ok"])
+        self.assertIn("goes on after 1 of 2 cases", self.outcome.output)
 
     def test_a_run_of_an_earlier_version_goes_on(self) -> None:
         """What is noted of a case has the names that it always had."""
-        self.write(case("say 1", "1"))
-        self.assertEqual(self.verdicts(self.path), ["ok"])
-        with Worksheet(self.path + ".run", program=PROGRAM) as sheet:
+        self.write(case("say 1", "1"), self.waiting())
+        self.cut_off(1)
+        with mock.patch.dict(os.environ, environment()), opened(self.path + ".run", self.path) as sheet:
             note = json.loads(sheet.cells[-1].input)
         self.assertEqual(set(note) - {"digest"}, {"case", "seconds", "tries", "began_anew", "is_error", "is_lost", "verdict"})
 
@@ -108,15 +147,15 @@ class Resuming(Case):
     def test_a_long_answer_before_the_time_is_over(self) -> None:
         said = "\U0001f600" * 600
         # Its interpreter runs by then: to start one takes longer on a busy machine.
-        self.write(case("say 1", "1"), case(f"say {said}\nstuck", f"{said}\n? over 2 s", "a {timeout 2}"))
-        self.assertEqual(self.verdicts(self.path), ["ok"] * 2)
-        self.assertEqual(self.verdicts(self.path, "--resume"), ["ok"] * 2)
-        self.assertIn("goes on after 2 of 2 cases", self.outcome.output)
+        self.write(case("say 1", "1"), case(f"say {said}\nstuck", f"{said}\n? over 2 s", "a {timeout 2}"), self.waiting())
+        self.cut_off(2)
+        self.assertEqual(self.verdicts(self.path, "--resume"), ["ok", "ok", "xfail"])
+        self.assertIn("goes on after 2 of 3 cases", self.outcome.output)
 
     def test_other_code_is_refused(self) -> None:
-        self.write(case("say 1", "1"))
-        self.run_suite(self.path)
-        self.write(case("say 2", "2"))
+        self.write(case("say 1", "1"), self.waiting())
+        self.cut_off(1)
+        self.write(case("say 2", "2"), self.waiting())
         ran = self.run_suite(self.path, "--resume")
         self.assertEqual(ran.status, 1)
         self.assertIn("isn't that of the run that was broken off", ran.errors)
@@ -130,10 +169,24 @@ class Resuming(Case):
                 time.sleep(0.05)
             ran = self.run_suite(self.path)
             self.assertEqual(ran.status, 1)
-            self.assertIn("is in use by another program", ran.errors)
+            said = f"tmhost-suite: {self.path}: another tmhost-suite runs it; waiting\ntmhost-suite: {self.path}: {self.path}.run is in use by another program\n"
+            self.assertEqual(ran.errors, said)
         finally:
             os.killpg(run.pid, signal.SIGKILL)
             run.wait()
+
+    def test_one_that_waits_for_another_goes_on(self) -> None:
+        """That takes its worksheet away at its end."""
+        self.write(self.waiting())
+        first = subprocess.Popen(words(self.path), stdout=subprocess.DEVNULL, env=environment(), start_new_session=True)
+        self.wait_for("b", f"until {self.place('go')}")
+        second = subprocess.Popen(words(self.path), stdout=subprocess.DEVNULL, stderr=subprocess.PIPE, text=True, env=environment(), start_new_session=True)
+        assert second.stderr
+        said = second.stderr.readline()
+        self.make_file("go")
+        self.assertEqual((said, second.communicate()[1]), (f"tmhost-suite: {self.path}: another tmhost-suite runs it; waiting\n", ""))
+        self.assertEqual((first.wait(), second.returncode), (0, 0))
+        self.assertFalse(os.path.exists(self.path + ".run"))
 
     def test_a_text_that_accepts_is_never_torn(self) -> None:
         for _ in range(KILLS):

@@ -1,13 +1,20 @@
 """Cases over the real program: verdicts, interpreters that end or loop, what is chosen, reports."""
+import errno
 import importlib
 import json
 import os
+import shutil
+import signal
 import subprocess
+import tempfile
 import unittest
 import xml.etree.ElementTree
 from typing import Any, List, Tuple
+from unittest import mock
 
-from .support import HERE, Case, case, environment, without_seconds, words
+from .support import HERE, Case, case, environment, heed_interrupts, without_seconds, words
+from tmhost_fences.troubles import Trouble
+from tmhost_suite.kept import make
 
 SCHEMA = os.path.join(os.path.dirname(HERE), "report.schema.json")
 
@@ -91,6 +98,39 @@ class Verdicts(Case):
         self.write(case("say x", "x"), more="folder: none\n")
         self.assertIn("`folder` is " + self.place("none") + ", which is no folder", self.run_suite(self.path).errors)
 
+    def of_words(self, words: str, *parts: str) -> None:
+        """A suite whose session c has these words."""
+        self.write(*parts)
+        text = self.read().replace("sessions:\n", f"sessions:\n  c: [{words}]\n")
+        with open(self.path, "w", encoding="utf-8") as file:
+            file.write(text)
+
+    def test_an_interpreter_that_does_not_start_is_no_wanted_failure(self) -> None:
+        """What is wanted to fail is an answer. One that has no adapter doesn't start either."""
+        for these, why in (("./nothing", "do its words start an interpreter here? ./nothing"), ("false", "false"), ("cat", "do its words start an interpreter here? cat")):
+            self.of_words(these, case("x", "3", "c {xfail known} {timeout 1}"), case("x", "3", "c {may_fail} {timeout 1}"), case("x", None, "c {setup} {timeout 1}"), case("say x", "x"))
+            found = self.objects(self.path)
+            self.assertEqual([one["verdict"] for one in found], ["differs", "differs", "new", "ok"], self.outcome.output)
+            self.assertEqual(self.outcome.status, 1)
+            self.assertEqual([one["remark"] for one in found][:1], ["known, its interpreter didn't start"])
+            self.assertIn(f"no case of the session c has an answer: {why}", self.outcome.output)
+
+    def test_a_program_that_an_adapter_starts_is_named(self) -> None:
+        if shutil.which("yacas"):
+            self.skipTest("there is a yacas")
+        self.of_words("tmhost-yacas", case("1", "3", "c {xfail known}"))
+        ran = self.run_suite(self.path)
+        self.assertEqual(ran.status, 1)
+        self.assertIn("there is no program yacas, which tmhost-yacas starts", ran.output)
+
+    def test_a_wanted_failure_without_an_answer_is_named(self) -> None:
+        self.write(case("die", "3", "a {xfail a wrong digit}"), case("say 4", "3", "a {xfail another}"), case("stuck", "3", "a {may_fail} {timeout 0.4}"), case("die", None, "b {setup}"), case("die", None, "b {teardown}"))
+        ran = self.run_suite(self.path)
+        named = f"xfail, ended: {self.path}:7 die (a wrong digit)\nxfail, over 0.4 s: {self.path}:27 stuck\nnew: {self.path}:37 die\n"
+        self.assertTrue(ran.output.startswith(named), ran.output)
+        self.assertEqual((ran.status, without_seconds(ran.output).splitlines()[-1]), (1, "3 xfail, 1 new"))
+        self.assertNotIn("do its words start an interpreter", ran.output)  # they did
+
     def test_why_no_case_has_an_answer(self) -> None:
         """What the adapter of a session says when it ends, which its interpreter's host drops."""
         self.write(case("1", "1", "c"), case("say x", "x"))
@@ -99,7 +139,8 @@ class Verdicts(Case):
         with open(self.path, "w", encoding="utf-8") as file:
             file.write(text)
         self.assertEqual(self.verdicts(self.path), ["differs", "ok"])
-        self.assertIn("no case of the session c has an answer: python: error: unrecognized arguments: --no-such-word\n", self.outcome.output)
+        self.assertIn("no case of the session c has an answer: ", self.outcome.output)
+        self.assertIn("python: error: unrecognized arguments: --no-such-word\n", self.outcome.output)
 
     def test_what_takes_down_comes_last(self) -> None:
         self.write(case("say end", "end", "a {teardown}"), case("say 1", "1"))
@@ -120,7 +161,78 @@ class Verdicts(Case):
         self.assertEqual((found["verdict"], found["tries"], self.outcome.status), ("flaky", 3, 0))
 
 
+class Shown(Case):
+    def test_a_person_is_shown_a_part_of_a_long_difference(self) -> None:
+        """The reports have it whole."""
+        self.make_file("long", "x" * 20_000)
+        self.make_file("many", "\n".join(map(str, range(1_000))))
+        self.write(case(f"file {self.place('long')}", "y"), case(f"file {self.place('many')}", "y"))
+        came = [str(one["came"]) for one in self.objects(self.path, "--junit", self.place("report.xml"))]
+        self.assertEqual([len(one) for one in came], [20_000, 3_889])
+        output = self.outcome.output
+        self.assertIn("x [19,501 characters left out] x", output)
+        self.assertRegex(output, r"  \+97\n  \[802 lines left out\]\n  \+900\n")
+        self.assertLess(len(output), 3_000)
+        self.assertIn("x" * 20_000, self.read(self.place("report.xml")))
+        self.assertIn("\n+500\n", self.read(self.place("report.xml")))
+        verbose = self.run_suite(self.path, "--verbose").output
+        self.assertLess(len(verbose), 6_000)
+
+
+class Folders(Case):
+    def test_the_suites_in_a_folder(self) -> None:
+        """Those of hidden folders and what is no suite are left out; what is named twice by that is one."""
+        for name in ("sub/b.md", "sub/a.md", "sub/deep/c.md", "sub/.git/d.md", "sub/.e.md"):
+            self.write(case(f"say {name}", name), path=self.make_file(name))
+        self.make_file("sub/words.md", "# Words\n")
+        self.make_file("sub/code.py", ">>> 1\n2\n")
+        found = self.objects("sub", "sub/a.md")
+        self.assertEqual([(one["file"], one["verdict"]) for one in found], [(name, "ok") for name in ("sub/a.md", "sub/b.md", "sub/deep/c.md")])
+        self.assertEqual(len(self.objects("sub", "--shard", "2/2")), 1)
+        self.make_file("sub/wrong.md", "---\nsessions: [\n---\n")
+        ran = self.run_suite("sub")
+        self.assertEqual((ran.status, ran.output.partition(" in ")[0]), (1, "3 ok"))
+        self.assertIn("tmhost-suite: sub/wrong.md: the front matter is no YAML", ran.errors)
+        os.mkdir(self.place("none"))
+        ran = self.run_suite("none")
+        self.assertEqual((ran.status, ran.errors), (1, "tmhost-suite: none: no .md file in this folder names sessions in its front matter\n"))
+
+    def test_its_version(self) -> None:
+        ran = self.run_suite("--version")
+        self.assertEqual((ran.status, ran.errors), (0, ""))
+        self.assertRegex(ran.output, r"\Atmhost-suite: tmhost \d.*\n\Z")
+
+    def test_an_interrupt_while_it_starts(self) -> None:
+        """Nothing is said of it. One of the modules that it reads takes its time here."""
+        self.make_file("modules/argparse.py", "import time\nprint('reads', flush=True)\ntime.sleep(30)\n")
+        variables = {**environment(), "PYTHONPATH": self.place("modules")}
+        run = subprocess.Popen(words("none.md"), stdout=subprocess.PIPE, stderr=subprocess.PIPE, text=True, env=variables, preexec_fn=heed_interrupts)
+        assert run.stdout
+        self.assertEqual(run.stdout.readline(), "reads\n")
+        run.send_signal(signal.SIGINT)
+        self.assertEqual((run.communicate()[1], run.returncode), ("", 130))
+
+    def test_a_disk_that_is_full(self) -> None:
+        with self.assertRaisesRegex(Trouble, "x.run can't be made: no space left on device"), mock.patch.object(tempfile, "TemporaryFile", side_effect=OSError(errno.ENOSPC, "No space left on device")):
+            make(self.place("none/x.run"))
+        with self.assertRaisesRegex(Trouble, "x.run can't be made: no such file or directory"):
+            make(self.place("none/x.run"))
+
+
 class Worksheets(Case):
+    def test_nothing_is_left_where_all_is_as_wanted(self) -> None:
+        """What is left else is for `--rerun failed`."""
+        self.write(case("say 1", "1"), case("say 2", "3"))
+        other = self.place("other.md")
+        self.write(case("say 1", "1"), path=other)
+        self.assertEqual(self.verdicts(self.path, other), ["ok", "differs", "ok"])
+        self.assertEqual([name for name in sorted(os.listdir(self.folder)) if ".run" in name], ["suite.md.run", "suite.md.run.alt"])
+        self.write(case("say 1", "1"), case("say 2", "2"))
+        self.assertEqual(self.verdicts(self.path, "--rerun", "failed"), ["ok"])
+        self.assertEqual([name for name in sorted(os.listdir(self.folder)) if ".run" in name], [])
+        self.assertEqual(self.verdicts(self.path, "--rerun", "failed"), [])
+        self.assertIn(f"{self.path}: no case of it failed in a run that is kept, so none is run\n", self.outcome.output)
+
     def test_suites_of_the_same_name_in_one_folder(self) -> None:
         paths = []
         for number in range(3):
@@ -128,7 +240,7 @@ class Worksheets(Case):
             paths.append(self.place(f"{number}/suite.md"))
             self.write(case(f"say {number}", "2"), path=paths[-1])
         self.assertEqual(self.verdicts(*paths, "--runs", self.place("new/runs")), ["differs", "differs", "ok"])
-        self.assertEqual(len([name for name in os.listdir(self.place("new/runs")) if name.endswith(".run")]), 3)
+        self.assertEqual(len([name for name in os.listdir(self.place("new/runs")) if name.endswith(".run")]), 2)
         self.assertEqual(self.verdicts(*paths, "--runs", self.place("new/runs"), "--rerun", "failed"), ["differs", "differs"])
 
     def test_a_suite_that_is_named_twice(self) -> None:

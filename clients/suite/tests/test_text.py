@@ -1,6 +1,7 @@
 """The text form: how it is read, and how answers are put into it."""
 import random
 import unittest
+from typing import List
 
 from .support import Case, case
 from tmhost_suite.text import Text
@@ -18,10 +19,34 @@ class Reading(unittest.TestCase):
         found = read("One.\n\n```a\nx\n```\n\n```answer\n1\n2\n```\n\n~~~b {whole}\ny\n\nz\n~~~\n\n```c\nno\n```\n").cases
         self.assertEqual([(one.session, one.lines, one.wanted, one.line) for one in found], [("a", ("x",), "1\n2", 6), ("b", ("y", "", "z"), None, 15)])
 
+    def doubts(self, text: str, front: str = FRONT) -> List[str]:
+        with self.assertRaises(Trouble) as raised:
+            read(text, front)
+        self.assertEqual(raised.exception.lines[-1], "{literal} after the word of a fence says that it is text")
+        return list(raised.exception.lines[:-1])
+
     def test_a_fence_with_the_name_of_an_adapter(self) -> None:
-        """Its author may have meant the session that this starts, so it is reported."""
-        found = read("```python\nx\n```\n\n```json\n1\n```\n", "---\nsessions: {py: [tmhost-python], a: [x]}\n---\n")
-        self.assertEqual(found.doubts, ["suite.md: line 4: no session has the name 'python' of this fence, which is no case: is py meant?"])
+        """Its author may have meant the session that this starts, so it is refused."""
+        front = "---\nsessions: {py: [tmhost-python], a: [x]}\n---\n"
+        self.assertEqual(self.doubts("```python\nx\n```\n\n```json\n1\n```\n", front), ["line 4: 'python' is no session (py, a): is py meant?"])
+        self.assertEqual(self.doubts("```py\nx\n```\n", front.replace("py:", "python:")), ["line 4: 'py' is no session (python, a): is python meant?"])
+
+    def test_a_fence_that_is_misspelt(self) -> None:
+        """Otherwise its test would be lost, and nobody would hear of it."""
+        front = "---\nsessions: {gp: [x], py: [y]}\n---\n"
+        found = self.doubts("```py\nx = 1\n```\n\n```anwser\n1\n```\n\n```py\n2\n```\n```answer\n2\n```\n```pyy\n3\n```\n```Error\n```\n~~~{.gpp}\n~~~\n", front)
+        self.assertEqual(found, ["line 8: 'anwser': is answer meant?", "line 18: 'pyy' is no session (gp, py): is py meant?", "line 21: 'Error': is error meant?", "line 23: 'gpp' is no session (gp, py): is gp meant?"])
+        self.assertEqual(self.doubts("```pyy\n1\n```\n```answer\n1\n```\n", front), ["line 4: 'pyy' is no session (gp, py): is py meant?"])
+        self.assertEqual(self.doubts("```py\n1\n```\n```anwser\n```\n```error\n```\n", front), ["line 7: 'anwser': is answer meant?"])
+        self.assertEqual(self.doubts("```{py}\n1\n```\n", front), ["line 4: `{py}` is a chunk of another program, and no fence of a session: is `{.py}` meant?"])
+
+    def test_a_fence_of_another_language(self) -> None:
+        """One whose word looks like that of a case says that it is text, by a word that tmhost-weave has, too."""
+        front = "---\nsessions: {gp: [tmhost-gp], py: [tmhost-python]}\n---\n"
+        others = "```gap {literal}\n1\n```\n```python {eval=FALSE}\n1\n```\n```{.pyy .literal}\n1\n```\n```py {hide, eval=FALSE}\n1\n```\n```sage\n1\n```\n```json\n1\n```\n```text\n1\n```\n```{error}\n```\n```\n1\n```\n"
+        self.assertEqual([one.line for one in read(others + "```py {xfail by eval=FALSE literal}\n1\n```\n", front).cases], [30])
+        with self.assertRaisesRegex(Trouble, "line 7: an answer stands after no case"):
+            read("```py {literal}\n1\n```\n```answer\n1\n```\n")
 
     def test_a_title(self) -> None:
         titles = [one.title for one in read("```a\n\n x\ny\n```\n\n```a\ntmhost_skips || {\n{\nseq 3\n} >out\n}\n```\n\n```a\n{\n```\n").cases]
@@ -52,7 +77,8 @@ class Reading(unittest.TestCase):
 
     def test_what_is_refused(self) -> None:
         for text, why in (
-            ("```a {setpu}\nx\n```\n", "line 4: 'setpu' is none of the words"),
+            ("```a {setpu}\nx\n```\n", "line 4: 'setpu' is none of the words that a case can have: is setup meant?"),
+            ("```a {other}\nx\n```\n", "line 4: 'other' is none of the words that a case can have: setup, teardown, "),
             ("```a {tolerance -1}\nx\n```\n", "line 4: '-1' is nothing that tolerance can have"),
             ("```a {tolerance 1 2 3}\nx\n```\n", "nothing that tolerance can have"),
             ("```a {normal x}\nx\n```\n", "nothing that normal can have"),
@@ -70,8 +96,8 @@ class Reading(unittest.TestCase):
         self.assertEqual(found, ("suite.md: the front matter has 'tolerence': is tolerance meant?", "suite.md: the front matter has 'session': is sessions meant?"))
 
     def test_a_session_that_may_be_mistyped(self) -> None:
-        found = read("```a\nx\n```\n\n```aa {setup}\ny\n```\n\n```c {hide}\nz\n```\n\n```python {'}\n```\n").suite.doubts
-        self.assertEqual(found, ("suite.md: line 8: no session has the name 'aa' of this fence, which is no case",))
+        found = self.doubts("```a\nx\n```\n\n```aa {setup}\ny\n```\n\n```c {hide}\nz\n```\n\n```python {'}\n```\n")
+        self.assertEqual(found, ["line 8: 'aa' is no session (a, b)"])
 
     def test_front_matter_that_is_refused(self) -> None:
         for more, why in (

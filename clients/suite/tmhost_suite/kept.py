@@ -5,10 +5,13 @@ import hashlib
 import json
 import os
 import subprocess
+import sys
+import tempfile
+import threading
 import time
-from typing import Dict, List, Optional, Tuple
+from typing import Dict, List, NamedTuple, Optional, Set, Tuple
 
-from tmhost import Cell, InUse, Refused, Worksheet, find_program
+from tmhost import Banner, Cell, Ended, Event, InUse, NoWorksheet, Refused, Stopped, Worksheet, find_program
 from tmhost_fences.troubles import Trouble
 
 from .cases import Suite
@@ -21,13 +24,21 @@ SECOND = ".alt"  # of a worksheet's second file
 MOST = 9_500  # of the fields of a suite and a note for each case; a worksheet has 10,000, and long answers have notes, too
 PART = 250  # characters, each of which JSON writes in up to 12
 PATIENCE, PAUSE = 10.0, 0.05  # seconds; the program of a run that was killed needs a moment to end
+MOMENT = 0.3  # seconds; one that has a worksheet for longer runs its suite
+ENDED = "ended"  # in the last note of a run that came to its end, so there is nothing in it to go on with
+ROOM = 65_536  # bytes that a new worksheet finds on a disk that isn't full
+
+# What can come of a case: what is as wanted, what isn't, and what is the tool's own and went wrong.
+PASSED = ("ok", "flaky", "xfail", "skip", "setup")
+WRONG = ("differs", "new", "xpass")
+BROKEN = "broken"
 
 
 @dataclasses.dataclass
 class Result:
     """What came of a case. `got` is what is compared, and `errors` are those that are apart; `tries` is how often it was evaluated; `began_anew` says that its interpreter was
     started for it, other than for the first case of its session; `is_error` that an answer is an error, or has one; `is_lost` that a field has no
-    answer. These names are those in the notes of a run, which may be one of an earlier version that was broken off: so they stay."""
+    answer; `has_started` that its interpreter came so far that it could have given one. These names are those in the notes of a run, which may be one of an earlier version that was broken off: so they stay."""
 
     got: str
     seconds: float
@@ -37,6 +48,37 @@ class Result:
     is_lost: bool = False
     errors: str = ""
     verdict: str = ""
+    has_started: bool = True
+
+
+class Starts:
+    """Which of the lines that were lost had an interpreter that was ready: one that greets has started."""
+
+    def __init__(self, sheet: Worksheet) -> None:
+        self._greeted: Set[Tuple[str, int]] = set()
+        self._lost: Dict[int, bool] = {}  # by the number of a cell: whether its interpreter had greeted
+        self._came = threading.Condition()
+        sheet.listen(self._take)
+
+    def _take(self, event: Event) -> None:
+        with self._came:
+            if isinstance(event, Banner):
+                self._greeted.add((event.session, event.life))
+            elif isinstance(event, (Ended, Stopped)):
+                for item in event.lost:
+                    self._lost[item.id] = (event.session, event.life) in self._greeted
+                self._came.notify_all()
+
+    def forget(self, cell: Cell) -> None:
+        """Before a cell is evaluated: what was lost of it before isn't meant."""
+        with self._came:
+            self._lost.pop(cell.id, None)
+
+    def had_started(self, cell: Cell) -> bool:
+        """Of a cell whose line was lost. What is reported to listeners comes a moment later than what is reported to who waits."""
+        with self._came:
+            self._came.wait_for(lambda: cell.id in self._lost, PATIENCE)
+            return self._lost.pop(cell.id, True)
 
 
 @dataclasses.dataclass
@@ -48,6 +90,9 @@ class Kept:
     cells: List[List[Cell]]
     misfits: Dict[int, str]
     results: Dict[int, Result]
+
+    def __post_init__(self) -> None:
+        self.starts = Starts(self.sheet)
 
     def note(self, at: int, result: Result) -> None:
         """A case is done when this has returned. What came isn't kept twice where the case's own cells show it, and stands in notes of its own
@@ -63,6 +108,8 @@ class Kept:
                 for part in parts:
                     self.sheet.new(NOTES, json.dumps({"case": at, "of": name, "part": part}, ensure_ascii=True))
                 short[name] = len(parts)
+        if result.has_started:
+            del short["has_started"]  # so that an earlier version can go on, too
         self.sheet.new(NOTES, json.dumps({"case": at, "digest": self.suite.cases[at].digest, **short}, ensure_ascii=True))
 
     def shown(self, at: int) -> Shown:
@@ -97,15 +144,42 @@ def program_of(suite: Suite) -> List[str]:
     return words if suite.folder is None else ["sh", "-c", 'cd -- "$0" && exec "$@"', suite.folder, *words]
 
 
-def opened(path: str, suite: Optional[Suite] = None) -> Worksheet:
-    until = time.monotonic() + PATIENCE
+def opened(path: str, of: str, suite: Optional[Suite] = None) -> Worksheet:
+    """The worksheet of a suite at `of`. With the suite it is opened for a run."""
+    began = time.monotonic()
+    is_said = False
     while True:
         try:
             return Worksheet(os.path.abspath(path), program=program_of(suite) if suite else None)
         except InUse:
-            if time.monotonic() > until:
+            waited = time.monotonic() - began
+            if waited > PATIENCE:
                 raise Trouble(f"{path} is in use by another program") from None
+            if waited > MOMENT and not is_said:
+                is_said = True
+                print(f"tmhost-suite: {of}: another tmhost-suite runs it; waiting", file=sys.stderr)
             time.sleep(PAUSE)
+
+
+def opened_or_none(path: str, of: str, suite: Optional[Suite] = None) -> Optional[Worksheet]:
+    """None where there is none, as where a run that was waited for has removed it."""
+    if not os.path.lexists(path):
+        return None
+    try:
+        return opened(path, of, suite)
+    except NoWorksheet:
+        return None
+
+
+def no_room(folder: str) -> Optional[str]:
+    """What the system says where a file in a folder can't grow. None where it can."""
+    try:
+        with tempfile.TemporaryFile(dir=folder) as file:
+            file.write(bytes(ROOM))
+            file.flush()
+    except OSError as error:
+        return (error.strerror or str(error)).lower()
+    return None
 
 
 def make(path: str) -> None:
@@ -114,7 +188,9 @@ def make(path: str) -> None:
     remove(fresh)
     made = subprocess.run([find_program(), "create", os.path.join(".", fresh)], stdin=subprocess.DEVNULL, capture_output=True)
     if made.returncode != 0:
-        raise Trouble(f"{path} can't be made: {made.stderr.decode('utf-8', 'backslashreplace').strip()}")
+        why = no_room(os.path.dirname(path) or ".") or made.stderr.decode("utf-8", "backslashreplace").strip()
+        remove(fresh)
+        raise Trouble(f"{path} can't be made: {why}")
     with contextlib.suppress(FileNotFoundError):
         os.replace(fresh + SECOND, path + SECOND)
     os.replace(fresh, path)
@@ -128,11 +204,12 @@ def begin(path: str, suite: Suite) -> Kept:
     fields, notes = sum(len(case.fields) for case in suite.cases), len(suite.cases)
     if fields + notes > MOST:
         raise Trouble(f"its {notes:,} cases with {fields:,} fields are more than {MOST:,} in all, which a run can keep: make two suites of it")
-    if os.path.lexists(path):
-        opened(path).close()  # so that the worksheet of a run that goes on isn't taken away
+    sheet = opened_or_none(path, suite.path)  # so that the worksheet of a run that goes on isn't taken away
+    if sheet is not None:
+        sheet.close()
     remove(path)
     make(path)
-    sheet = opened(path, suite)
+    sheet = opened(path, suite.path, suite)
     try:
         return fill(sheet, suite)
     except BaseException:
@@ -160,27 +237,36 @@ def fill(sheet: Worksheet, suite: Suite) -> Kept:
     return kept
 
 
-def resume(path: str, suite: Suite) -> Optional[Kept]:
-    """The run that was broken off. None where there is none, or where it was broken off before a case began."""
-    if not os.path.lexists(path):
-        return None
-    sheet = opened(path, suite)
+class Resumed(NamedTuple):
+    """A run that was cut off, and what is said of it. Where there is none the suite is run from its beginning."""
+
+    kept: Optional[Kept]
+    said: str
+
+
+def resume(path: str, suite: Suite) -> Resumed:
+    sheet = opened_or_none(path, suite.path, suite)
+    if sheet is None:
+        return Resumed(None, "no run of it was cut off, so it begins")
     try:
-        return found_in(sheet, suite)
+        notes = notes_in(sheet) if NOTES in sheet.sessions else []
+        has_ended = bool(notes) and ENDED in notes[-1]
+        if notes and not has_ended:
+            kept = found_in(sheet, suite, notes)
+            done = sum(not suite.cases[at].is_own for at in kept.results)
+            return Resumed(kept, f"goes on after {done} of {suite.count} cases")
     except BaseException:
         sheet.close()
         raise
+    sheet.close()
+    return Resumed(None, "its last run came to its end, so it is run again" if has_ended else "no run of it was cut off after a case, so it begins")
 
 
 def notes_in(sheet: Worksheet) -> List[Dict[str, object]]:
     return [json.loads(cell.input) for cell in sheet.cells if cell.session == NOTES]
 
 
-def found_in(sheet: Worksheet, suite: Suite) -> Optional[Kept]:
-    notes = notes_in(sheet) if NOTES in sheet.sessions else []
-    if not notes:
-        sheet.close()
-        return None
+def found_in(sheet: Worksheet, suite: Suite, notes: List[Dict[str, object]]) -> Kept:
     if notes[0].get("suite") != suite.digest:
         raise Trouble("the code of the suite isn't that of the run that was broken off: begin again, without --resume")
     kept = Kept(sheet, suite, [], {}, {})
@@ -209,12 +295,37 @@ def found_in(sheet: Worksheet, suite: Suite) -> Optional[Kept]:
     return kept
 
 
-def last_failed(path: str) -> Optional[List[str]]:
+def last_failed(path: str, of: str) -> Optional[List[str]]:
     """The digests of the cases that weren't passed in the last run. None where what the tool sets up for them went wrong, so that none was run."""
-    if not os.path.lexists(path):
+    sheet = opened_or_none(path, of)
+    if sheet is None:
         return []
-    with opened(path) as sheet:
+    with sheet:
         notes = notes_in(sheet)[1:]
-    if any(note.get("verdict") == "broken" for note in notes):
+    if any(note.get("verdict") == BROKEN for note in notes):
         return None
-    return [str(note["digest"]) for note in notes if note.get("verdict") in ("differs", "new", "xpass")]
+    return [str(note["digest"]) for note in notes if note.get("verdict") in WRONG]
+
+
+Trace = Tuple[Tuple[int, int, int], ...]
+
+
+def trace_of(path: str) -> Trace:
+    """What a worksheet's files are, by which one is known to which nothing was done since. Nothing where one of them can't be seen."""
+    try:
+        found = [os.stat(name) for name in (path, path + SECOND)]
+    except OSError:
+        return ()
+    return tuple((one.st_ino, one.st_size, one.st_mtime_ns) for one in found)
+
+
+def finish(path: str, of: str, trace: Trace, is_ok: bool) -> None:
+    """The run of a suite came to its end, and is reported: its worksheet is left for `--rerun failed` alone, where a case failed. One that another
+    run has taken meanwhile is left alone."""
+    if not trace or trace_of(path) != trace:
+        return
+    if is_ok:
+        remove(path)
+        return
+    with opened(path, of) as sheet:
+        sheet.new(NOTES, json.dumps({ENDED: True}))

@@ -4,6 +4,8 @@ import shlex
 from decimal import Decimal
 from typing import Callable, Dict, Iterator, Optional, Tuple
 
+from tmhost_fences.info import LITERAL, NO
+from tmhost_fences.near import near
 from tmhost_fences.troubles import Trouble
 
 from .cases import Marks
@@ -116,6 +118,20 @@ def has_marks(info: str) -> bool:
         return False
 
 
+def is_text(info: str) -> bool:
+    """Whether an info string says, as to tmhost-weave, that its fence is text, whatever its word is. A reason of a case may have any words."""
+    for found in BRACES.findall(info):
+        try:
+            words = [word.strip(",") for word in shlex.split(found)]
+        except ValueError:
+            continue
+        if words and words[0] not in READERS:
+            options = {name: value.lower() for name, _, value in (word.partition("=") for word in words)}
+            if options.get("eval") in NO or not options.keys().isdisjoint((LITERAL, "." + LITERAL)):
+                return True
+    return False
+
+
 def read_marks(info: str, line: int) -> Marks:
     info = info.strip()
     found: Dict[str, object] = {}
@@ -124,7 +140,8 @@ def read_marks(info: str, line: int) -> Marks:
             if name in IDLE:
                 continue
             if name not in READERS:
-                raise Trouble(f"line {line}: {ascii(name)} is none of the words that a case can have: {', '.join(READERS)}")
+                meant = near(name, tuple(READERS))
+                raise Trouble(f"line {line}: {ascii(name)} is none of the words that a case can have: {f'is {meant} meant?' if meant else ', '.join(READERS)}")
             member, read = READERS[name]
             value = read(rest)
             # Of these a case may have several.

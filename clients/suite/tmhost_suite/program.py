@@ -9,21 +9,23 @@ import sys
 import threading
 import time
 from concurrent.futures import ThreadPoolExecutor
-from typing import Callable, Dict, Iterator, List, Optional, Tuple
+from typing import Callable, Dict, Iterator, List, NamedTuple, Optional, Tuple
 
-from tmhost import TmhostError, Worksheet
+from tmhost import Died, TmhostError, Worksheet
 from tmhost.program import show_building
+from tmhost.version import ShowVersion
 from tmhost_weave.files import put
 from tmhost_fences.troubles import Trouble
 
 from . import kept as worksheets
 from . import reports
 from .cases import Case, Suite
+from .kept import PASSED
 from .marks import seconds
 from .reports import FORMATS, Reported, reported_of
 from .rules import as_wanted
-from .running import PASSED, Plan, run
-from .telling import Teller, standard
+from .running import Plan, run
+from .telling import Teller, cut, standard
 from .readers import as_text, read_other
 from .text import Text, names_sessions
 
@@ -33,12 +35,16 @@ The front matter of SUITE names the sessions, as `sessions: {py: [tmhost-python]
 `timeout`. A fence of a session is a case, and a fence `answer` after it what is wanted. After the session may stand {setup},
 {teardown}, {xfail REASON}, {may_fail REASON}, {skip REASON}, {timeout SECONDS}, {tags A B}, {flaky N}, {whole} and others
 (clients/suite/README.md).
-What came is kept in the worksheet SUITE.run while the suite runs, so --resume goes on where a run was cut off.
+A SUITE that is a folder is the .md files in it, and in its folders, whose front matter names sessions; hidden ones are left out.
+What came is kept in the worksheet SUITE.run while the suite runs, so --resume goes on where a run was cut off. Where all is as
+wanted it is removed at the end, else --rerun failed reads it.
 In the interpreters TMHOST_SUITE_FOLDER is the folder of the suite.
 The program is the one that TMHOST names, tmhost on PATH, or the one that was built or installed with this.
 The status is 0 where all is as wanted, 1 where it isn't, and 2 where the words are refused.
 """
 INTERRUPTED = 130
+MARKDOWN = ".md"
+DISK = "Disk"  # the faults of a disk that fails, or is full
 
 
 def shard(word: str) -> Tuple[int, int]:
@@ -57,6 +63,7 @@ def positive(word: str) -> int:
 def arguments(words: List[str]) -> argparse.Namespace:
     parser = argparse.ArgumentParser("tmhost-suite", None, ABOUT, NOTES, formatter_class=argparse.RawDescriptionHelpFormatter)
     parser.add_argument("suites", nargs="+", metavar="SUITE")
+    parser.add_argument("--version", action=ShowVersion)
     parser.add_argument("--accept", action="store_true", help="put what came into the text where it isn't what is wanted")
     parser.add_argument("--interactive", action="store_true", help="with --accept: ask for each case")
     parser.add_argument("--only", metavar="PATTERN", help="run the cases whose line number or first line is this, with * and ? as in names of files")
@@ -86,7 +93,7 @@ def arguments(words: List[str]) -> argparse.Namespace:
 def chooser(given: argparse.Namespace, path: str) -> Callable[[int, Case], bool]:
     """Which cases of a suite are run."""
     tags = frozenset(re.split(r"[\s,]+", given.tags)) if given.tags else None
-    last = worksheets.last_failed(worksheets.sheet_path(path, given.runs)) if given.rerun else None
+    last = worksheets.last_failed(worksheets.sheet_path(path, given.runs), path) if given.rerun else None
     failed = None if last is None else frozenset(last)
 
     def is_chosen(at: int, case: Case) -> bool:
@@ -105,6 +112,8 @@ Read = Tuple[Suite, Optional[Text]]
 
 def read(path: str, words: Optional[str]) -> Read:
     """A suite, with its text where it is of the text form. The words are those of the session of another form."""
+    if os.path.isdir(path):
+        raise Trouble(f"no {MARKDOWN} file in this folder names sessions in its front matter")
     with open(path, "rb") as file:
         data = file.read()
     try:
@@ -120,10 +129,42 @@ def read(path: str, words: Optional[str]) -> Read:
 
 def converted(path: str, words: Optional[str]) -> Tuple[str, List[str]]:
     """The text form of a suite, and what is to be said of what it doesn't have."""
+    if os.path.isdir(path):
+        raise Trouble(f"{path} is a folder: --convert takes the suites in it by their names")
     try:
         return as_text(read(path, words)[0])
     except Trouble as trouble:
         raise Trouble(f"{path}: {trouble}") from None
+
+
+def suites_of(path: str) -> List[str]:
+    """The suites that a word of the command line names: those in a folder in the order of their names, or the folder itself where it has none. A text
+    that can't be read is one of them, so that this is reported."""
+    if not os.path.isdir(path):
+        return [path]
+    found = []
+    for folder, inner, names in os.walk(path):
+        inner[:] = [name for name in inner if not name.startswith(".")]
+        places = (os.path.normpath(os.path.join(folder, name)) for name in names if name.endswith(MARKDOWN) and not name.startswith("."))
+        found += [place for place in places if is_suite(place)]
+    return sorted(found) or [path]
+
+
+def is_suite(path: str) -> bool:
+    try:
+        with open(path, encoding="utf-8", errors="replace", newline="") as file:
+            return names_sessions(file.read())
+    except (OSError, Trouble):
+        return True
+
+
+class Ran(NamedTuple):
+    """A suite that came to its end, and what its worksheet was then."""
+
+    path: str
+    sheet: str
+    trace: worksheets.Trace
+    is_ok: bool
 
 
 class Runner:
@@ -134,20 +175,17 @@ class Runner:
         self.slots, self.ended, self.is_broken_off = threading.Semaphore(given.jobs), threading.Event(), threading.Event()
         self.sheets: List[Worksheet] = []  # those of suites that have begun
         self.accepted: List[str] = []  # what is said of texts that were changed
+        self.ran: List[Ran] = []
         self.chosen = 0  # how many cases were to be run
         self.troubles: List[reports.Trouble] = []  # why suites weren't run to their end; the others are
         self.seed = str(random.randrange(10**6)) if given.random == "new" else given.random
 
     def run(self) -> bool:
         number, parts = self.given.shard
-        real = [os.path.realpath(path) for path in self.given.suites]
-        for at, path in enumerate(real):
-            if path in real[:at]:
-                raise Trouble(f"{self.given.suites[at]} is named twice")
         self._refuse_places()
         if self.given.runs:
             os.makedirs(self.given.runs, exist_ok=True)
-        paths = self.given.suites[number - 1 :: parts]
+        paths = self._paths()[number - 1 :: parts]
         suites = [found for found in map(self._read, paths) if found is not None]
         for doubt in (doubt for suite, _ in suites for doubt in suite.doubts):
             self.teller.say(doubt)
@@ -166,11 +204,32 @@ class Runner:
         self.teller.end_progress()
         self._tell(reported, time.monotonic() - began)
         self._write_reports(reported)
+        self._finish()
         for trouble in self.troubles:
-            print(f"tmhost-suite: {trouble.path}: {trouble.why}", file=sys.stderr)
+            for line in trouble.why.split("\n"):
+                print(f"tmhost-suite: {trouble.path}: {cut(line)}", file=sys.stderr)
         if not self.chosen and parts == 1 and (self.given.only or self.given.tags):
             raise Trouble("no case is one of those that are to be run")
         return not self.troubles and all(one.verdict in PASSED or one.verdict == "out" for one in reported)
+
+    def _paths(self) -> List[str]:
+        """The suites, in the order in which they are named. One that is named, and is in a folder that is, too, is one."""
+        named = [path for path in self.given.suites if not os.path.isdir(path)]
+        real = [os.path.realpath(path) for path in named]
+        for at, path in enumerate(real):
+            if path in real[:at]:
+                raise Trouble(f"{named[at]} is named twice")
+        found: Dict[str, str] = {}
+        for word in self.given.suites:
+            for path in suites_of(word):
+                found.setdefault(os.path.realpath(path), path)
+        return list(found.values())
+
+    def _finish(self) -> None:
+        """All is reported: there is nothing to go on with, and what a suite keeps is for `--rerun failed` alone."""
+        for ran in self.ran:
+            with self._reported_of(ran.path):
+                worksheets.finish(ran.sheet, ran.path, ran.trace, ran.is_ok)
 
     def _refuse_places(self) -> None:
         """A report that can't be written where it is wanted is refused before anything is evaluated, which may take hours."""
@@ -207,6 +266,8 @@ class Runner:
             yield
         except (Trouble, TmhostError, OSError) as trouble:
             why = trouble.strerror if isinstance(trouble, OSError) else None
+            if isinstance(trouble, Died) and trouble.fault == DISK:
+                why = worksheets.no_room(os.path.dirname(worksheets.sheet_path(path, self.given.runs)) or ".")
             if not self.is_broken_off.is_set():
                 self.troubles.append(reports.Trouble(path, why or str(trouble)))
 
@@ -217,18 +278,26 @@ class Runner:
         if text is not None and not suite.cases:
             raise Trouble("there is no case: no fence is of a session that the front matter names")
         chosen = chooser(self.given, suite.path)
-        self.chosen += sum(chosen(at, case) for at, case in enumerate(suite.cases))
+        count = sum(chosen(at, case) for at, case in enumerate(suite.cases))
+        self.chosen += count
+        if self.given.rerun and not count:
+            self.teller.say(f"{suite.path}: no case of it failed in a run that is kept, so none is run")
         found = worksheets.resume(path, suite) if self.given.resume else None
         if found is not None:
-            done = sum(not suite.cases[at].is_own for at in found.results)
-            self.teller.say(f"{suite.path}: goes on after {done} of {suite.count} cases")
-        kept = found or worksheets.begin(path, suite)
+            self.teller.say(f"{suite.path}: {found.said}")
+        kept = found.kept if found is not None and found.kept is not None else worksheets.begin(path, suite)
         with kept.sheet:
             self.sheets.append(kept.sheet)
             plan = Plan(chosen, self.given.seconds, self.slots, self.ended, self.is_broken_off, self.given.fail_fast, self.seed)
             run(kept, plan, lambda at: self.teller.one_more())
         reported = reported_of(suite, kept.results, chosen)
-        self.troubles += reports.broken_in(suite, kept.results)
+        broken = list(reports.broken_in(suite, kept.results))
+        self.troubles += broken
+        # A run that its first failure ended has cases to go on with.
+        left = self.ended.is_set() and any(chosen(at, case) and case.marks.skip is None and at not in kept.results for at, case in enumerate(suite.cases))
+        if not left:
+            is_ok = not broken and all(one.verdict in PASSED or one.verdict == "out" for one in reported)
+            self.ran.append(Ran(suite.path, path, worksheets.trace_of(path), is_ok))
         if self.given.accept:
             with self._reported_of(suite.path):
                 self._accept(text, reported)
@@ -277,9 +346,11 @@ class Runner:
             elif self.given.verbose and one.verdict != "out":
                 self.teller.tell(one)
                 self.teller.tell_normalised(one)
+            elif one.verdict == "xfail" and one.is_lost:
+                self.teller.tell(one)
         if self.given.slowest:
             self.teller.tell_slowest(reported, self.given.slowest)
-        self.teller.tell_silent_sessions(reported)
+        self.teller.tell_unstarted_sessions(reported)
         self.teller.tell_idle_rules(reported)
         self.teller.tell_counts(reported, taken)
         for line in self.accepted:

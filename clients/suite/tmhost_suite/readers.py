@@ -12,14 +12,15 @@ import textwrap
 from typing import Any, Callable, Dict, Iterator, List, Optional, Tuple
 
 from tmhost import readable
-from tmhost_fences.blocks import LINE, cut
+from tmhost_fences.blocks import LINE, blocks_of, cut
 from tmhost_fences.fields import LINE_END, Group, groups, language_in, whole
+from tmhost_fences.info import LITERAL
 from tmhost_fences.troubles import Missing, Trouble
 
 from .cases import Case, Marks, Suite
 from .forms import FOLDER, GAP, GP, OCTAVE, PYTHON, SHELL, Session, lines_of, own_case, session_of, whole_case
 from .rules import ANY_LINES, BY_GLOB, BY_PATTERN, PICTURES, Rules, exactly
-from .text import Text
+from .text import Text, misspellings
 from .transcripts import is_gap, is_octave, read_gap, read_octave
 
 CRAM_CODE, CRAM_MORE = re.compile(r"  \$ (.*)"), re.compile(r"  > (.*)")
@@ -352,8 +353,11 @@ def as_text(suite: Suite) -> Tuple[str, List[str]]:
     rules = [*(["folder: ."] if suite.folder else []), *(["without: pictures"] if PICTURES in suite.rules.without else []), *(["spaces: any"] if suite.rules.any_spaces else []), *([f"columns: {suite.rules.columns}"] if suite.rules.columns else [])]
     front = ["---", "sessions:", *(f"  {name}: {json.dumps(list(words))}" for name, words in suite.sessions.items()), *rules, "---", ""]
     cases: List[List[str]] = [case_text(case, language_in(suite.sessions[case.session])) for case in suite.cases]
-    prose = [case.before for case in suite.cases] + [suite.after]
+    as_it_is = [case.before for case in suite.cases] + [suite.after]
+    prose = [marked(before, suite.sessions) for before in as_it_is]
     said = [f"{suite.path}: {what}, left out" for what in suite.left_out]
+    if prose != as_it_is:
+        said.append(f"{suite.path}: fences of its prose whose words look like {', '.join(suite.sessions)} have {{{LITERAL}}} now, which says that they are text")
     if not takes_no_case(front, prose, cases):
         # A fence of a case begins and ends at the top of the text, so what stands beyond the cases next to a prose doesn't hang on that.
         for at, before in enumerate(prose):
@@ -363,6 +367,16 @@ def as_text(suite: Suite) -> Tuple[str, List[str]]:
                 said.append(f"{place} {lines_of(before.count(chr(10)) + 1, 'prose')}, left out, since with it the text would have other cases")
                 prose[at] = ""
     return joined_text(front, prose, cases), said
+
+
+def marked(prose: str, sessions: Dict[str, Tuple[str, ...]]) -> str:
+    """A prose whose fences say that they are text where a suite would ask whether a case is meant."""
+    if not prose:
+        return prose
+    lines = prose.split("\n")
+    for block, _ in misspellings(blocks_of(lines), sessions):
+        lines[block.begin] = f"{lines[block.begin].rstrip()} {{{LITERAL}}}"
+    return "\n".join(lines)
 
 
 def joined_text(front: List[str], prose: List[str], cases: List[List[str]]) -> str:

@@ -10,14 +10,13 @@ from xml.sax.saxutils import escape, quoteattr
 
 from .cases import Case, Suite
 from .diffs import diff
-from .kept import Result
+from .kept import BROKEN, WRONG, Result
 from .rules import wrong_patterns
-from .running import BROKEN, WRONG
 
 NO_XML = re.compile("[^\t\n\r -\ud7ff\ue000-\ufffd\U00010000-\U0010ffff]")
 
 
-def readable(text: str) -> str:
+def printable(text: str) -> str:
     """Without what moves a terminal's cursor, changes its state, or ends a line for some reader of a report."""
     return "".join(c if c in "\n\t" or c.isprintable() else c.encode("unicode_escape").decode() for c in text)
 
@@ -50,6 +49,17 @@ class Reported:
         return bool(self.result and self.result.is_lost)
 
     @property
+    def has_started(self) -> bool:
+        """Whether its interpreter came so far that it could have given an answer."""
+        return not self.result or self.result.has_started
+
+    @property
+    def lost_as(self) -> str:
+        """In a word or two why no answer came to a field of it, as `ended` or `over 5 s`; empty where all came."""
+        last = self.got.rpartition("\n")[2] if self.is_lost else ""
+        return last[2:3].lower() + last[3:]
+
+    @property
     def got(self) -> str:
         return self.result.got if self.result else ""
 
@@ -71,6 +81,8 @@ class Reported:
             parts.append(f"tried {self.result.tries} times")
         if self.result and self.result.began_anew:
             parts.append("in an interpreter that was started again")
+        if self.is_wrong and not self.has_started:
+            parts.append("its interpreter didn't start")
         if self.verdict == "differs":
             parts += wrong_patterns(self.case.wanted or "") + wrong_patterns(self.case.errors or "")
         return ", ".join(part for part in parts if part)
@@ -127,18 +139,18 @@ def broken_in(suite: Suite, results: "dict[int, Result]") -> Iterator[Trouble]:
         if case.is_own and at in results and results[at].verdict == BROKEN:
             what = "taking it down" if case.marks.is_teardown else "setting it up"
             left = "" if case.marks.is_teardown else ", so none of its cases was run"
-            yield Trouble(suite.path, f"{what} went wrong{left}: {readable(results[at].got)}")
+            yield Trouble(suite.path, f"{what} went wrong{left}: {printable(results[at].got)}")
 
 
 def tap_text(text: str) -> str:
-    return re.sub(r"[\\#]", r"\\\g<0>", readable(text.replace("\n", " ")))
+    return re.sub(r"[\\#]", r"\\\g<0>", printable(text.replace("\n", " ")))
 
 
 def tap_points(shown: List[Reported], troubles: List[Trouble]) -> Iterator[str]:
     """The plan, and a point for each case, and for each suite that wasn't run to its end."""
     yield f"1..{len(shown) + len(troubles)}"
     for number, reported in enumerate(shown, 1):
-        remark = readable(reported.remark)
+        remark = printable(reported.remark)
         directive = {"skip": f" # SKIP {remark}", "xfail": f" # TODO {remark}", "xpass": f" # TODO {remark}"}.get(reported.verdict, "")
         yield f"{'not ok' if reported.verdict in ('differs', 'new', 'xfail') else 'ok'} {number} - {tap_text(reported.name)}{directive.rstrip()}"
         if reported.result:
@@ -147,7 +159,7 @@ def tap_points(shown: List[Reported], troubles: List[Trouble]) -> Iterator[str]:
             yield f"  duration_ms: {reported.seconds * 1000:.3f}"
             if reported.diff:
                 yield "  diff: |"  # whose first line is `--- wanted`: `prove` knows no indentation in numbers
-                yield from ("    " + readable(line) for line in reported.diff)
+                yield from ("    " + printable(line) for line in reported.diff)
             yield "  ..."
     for number, trouble in enumerate(troubles, len(shown) + 1):
         yield f"not ok {number} - {tap_text(f'{trouble.path}: {trouble.why}')}"
@@ -249,7 +261,7 @@ def json_lines(all_reported: List[Reported], troubles: List[Trouble]) -> Iterato
 
 
 def github_text(text: str) -> str:
-    return readable(text).replace("%", "%25").replace("\r", "%0D").replace("\n", "%0A")
+    return printable(text).replace("%", "%25").replace("\r", "%0D").replace("\n", "%0A")
 
 
 def path_in_repository(path: str) -> str:

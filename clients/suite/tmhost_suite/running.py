@@ -11,13 +11,10 @@ from typing import Callable, List, Optional
 from tmhost import Answer, Cell, Lost, Refused, TimedOut
 
 from .cases import Case, Suite
-from .kept import Kept, Result, joined
+from .kept import BROKEN, WRONG, Kept, Result, joined
 from .shown import Shown, shown_of
 
 GRACE = 2.0  # seconds for an interpreter that was interrupted to say so
-PASSED = ("ok", "flaky", "xfail", "skip", "setup")
-WRONG = ("differs", "new", "xpass")
-BROKEN = "broken"  # of what is the tool's own, and went wrong
 
 
 @dataclasses.dataclass
@@ -39,6 +36,9 @@ def verdict_of(case: Case, result: Result, is_good: bool) -> str:
         return BROKEN if result.is_error or result.is_lost or case.wanted is not None and not is_good else "setup"
     if is_skipped(case, result.got):
         return "skip"
+    if not result.has_started and not is_good:
+        # A wrong answer is what may be wanted, and this is none: the case wasn't tried.
+        return "new" if case.wanted is None and case.errors is None else "differs"
     if case.marks.xfail is not None:
         return "xpass" if is_good else "xfail"
     if is_good:
@@ -46,7 +46,8 @@ def verdict_of(case: Case, result: Result, is_good: bool) -> str:
     if case.marks.may_fail is not None:
         return "xfail"
     if case.wanted is None and case.errors is None:
-        return "setup" if case.marks.is_setup or case.marks.is_teardown else "new"
+        # What takes down may end its interpreter.
+        return "setup" if case.marks.is_teardown or case.marks.is_setup and not result.is_lost else "new"
     return "differs"
 
 
@@ -68,7 +69,11 @@ def judge_again(kept: Kept) -> None:
 
 
 class Over(Exception):
-    """The time of a case is over."""
+    """The time of a case is over. `has_started` says that its interpreter was ready within it."""
+
+    def __init__(self, has_started: bool) -> None:
+        super().__init__(has_started)
+        self.has_started = has_started
 
 
 class Chain:
@@ -147,7 +152,7 @@ class Chain:
         until = began + (case.marks.timeout or self.suite.timeout or self.plan.seconds)
         got: List[Shown] = []
         lost: List[Shown] = []
-        is_error, rules = False, self.suite.rules_of(case)
+        is_error, has_started, rules = False, True, self.suite.rules_of(case)
         try:
             for cell in self.kept.cells[at]:
                 answer = self._answer(cell, until)
@@ -155,25 +160,29 @@ class Chain:
                 is_error = is_error or bool(answer.errors)
         except Lost as ended:
             lost.append(Shown(f"? {ended.reason}"))
-        except Over:
+            has_started = self.kept.starts.had_started(cell)
+        except Over as over:
+            has_started = over.has_started
             lost.append(Shown(f"? over {until - began:g} s"))
         except Refused as refused:
             lost.append(Shown(f"? {refused}"))
         if at in self.kept.misfits:
             lost.append(Shown(f"? {self.kept.misfits[at]}"))
         shown, taken = joined(got + lost), time.monotonic() - began
-        return Result(shown.text, taken, began_anew=began_anew, is_error=is_error, is_lost=bool(lost), errors=shown.errors)
+        return Result(shown.text, taken, began_anew=began_anew, is_error=is_error, is_lost=bool(lost), errors=shown.errors, has_started=has_started)
 
     def _answer(self, cell: Cell, until: float) -> Answer:
         """The answer of a cell. Raises Lost, where its interpreter ended, Over, where the time is, and Refused."""
+        self.kept.starts.forget(cell)
         try:
             return cell.evaluate(max(0.001, until - time.monotonic()))
         except Lost:
             self.is_fresh = True
             raise
         except TimedOut:
+            is_queued = cell.turn == "queued"  # before its interpreter has greeted
             self._interrupt(cell)
-            raise Over from None
+            raise Over(not is_queued) from None
 
     def _interrupt(self, cell: Cell) -> None:
         """Ends what an interpreter is at; where it doesn't heed that, the interpreter."""
@@ -228,7 +237,6 @@ class Chain:
             pass  # the case that comes starts another one
         finally:
             scratch.remove()
-
 
     def _look(self, case: Case, answer: Answer) -> None:
         """Notes why what the tool sets up went wrong, where it did."""

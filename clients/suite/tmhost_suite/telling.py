@@ -6,13 +6,28 @@ from typing import Dict, List, Set, TextIO, Tuple
 from tmhost.starting import doubt, why_it_ends, without_adapter
 
 from .cases import Suite
-from .reports import Reported, readable
+from .reports import Reported, printable
 
 COLOURS = {"-": "31", "+": "32", "@": "36"}
 BOLD = "1"
 ORDER = ("ok", "flaky", "xfail", "skip", "differs", "new", "xpass")
 SILENT = ("? Ended", "? StartRefused", "? Stalled", "? over ")  # how what came of a case without an answer begins
 CLEAR = "\r\x1b[K"
+LONGEST, MOST = 500, 200  # characters of a line, and lines of a text, that a person is shown
+
+
+def cut(line: str) -> str:
+    """A line for people: of a long one its beginning and its end. The reports have it whole."""
+    left = len(line) - LONGEST
+    return line if left <= 0 else f"{line[: LONGEST // 2]} [{left:,} characters left out] {line[-(LONGEST // 2) :]}"
+
+
+def shortened(lines: List[str]) -> List[str]:
+    """Lines for people: of many the first and the last ones, and of long ones as much."""
+    left = len(lines) - MOST
+    if left > 0:
+        lines = [*lines[: MOST // 2], f"[{left:,} lines left out]", *lines[-(MOST // 2) :]]
+    return [cut(line) for line in lines]
 
 
 class Teller:
@@ -45,38 +60,42 @@ class Teller:
         self.out.write(line + "\n")
 
     def tell(self, reported: Reported) -> None:
-        """A case that is wrong, with its difference."""
+        """A case that is wrong, with its difference, or one of which more is said than that it is counted."""
         remark = f" ({reported.remark})" if reported.remark else ""
-        self.say(self.painted(readable(f"{reported.verdict}{', an error' if reported.is_error else ''}: {reported.name}{remark}"), BOLD))
+        # A wrong answer is what is wanted to come of it, and none came.
+        lost = f", {reported.lost_as}" if reported.verdict == "xfail" and reported.is_lost else ""
+        self.say(self.painted(printable(cut(f"{reported.verdict}{', an error' if reported.is_error else ''}{lost}: {reported.name}{remark}")), BOLD))
         if reported.verdict == "xpass":
             self.say("  it is wanted to fail, and passes")
-        for line in reported.diff[2:] if reported.differs_in_text else reported.diff:
-            self.say("  " + self.painted(readable(line), COLOURS.get(line[:1], "")))
+        for line in shortened(reported.diff[2:] if reported.differs_in_text else reported.diff):
+            self.say("  " + self.painted(printable(line), COLOURS.get(line[:1], "")))
 
     def tell_bare_sessions(self, suite: Suite) -> None:
         """The sessions that will never have an answer, before each of their cases waits until its time is over."""
         for name, words in suite.sessions.items():
             why = without_adapter(words) if suite.of(name) and "/" not in words[0] else None
             if why:
-                self.say(readable(f"{suite.path}: the session {name}: {why}"))
+                self.say(printable(f"{suite.path}: the session {name}: {why}"))
 
-    def tell_silent_sessions(self, all_reported: List[Reported]) -> None:
-        """The sessions of which no case had an answer though one is wanted, since what their interpreters said of it stands nowhere."""
+    def tell_unstarted_sessions(self, all_reported: List[Reported]) -> None:
+        """The sessions whose interpreter didn't start, since what that said of it stands nowhere."""
         sessions: Dict[Tuple[str, str], List[Reported]] = {}
         for reported in all_reported:
             if reported.result:
                 sessions.setdefault((reported.suite.path, reported.case.session), []).append(reported)
         for (path, name), own in sessions.items():
-            if any(reported.is_wrong for reported in own) and all(reported.got.startswith(SILENT) for reported in own):
+            if any(reported.is_wrong and not reported.has_started for reported in own):
                 words = own[0].suite.sessions[name]
                 named = doubt(words) if "/" not in words[0] else None  # a path is that in the folder in which it is started
                 why = named or why_it_ends(words, own[0].suite.folder) or f"do its words start an interpreter here? {' '.join(words)}"
-                self.say(readable(f"{path}: no case of the session {name} has an answer: {why}"))
+                is_silent = all(reported.got.startswith(SILENT) for reported in own)
+                what = f"no case of the session {name} has an answer" if is_silent else f"the session {name} didn't start for each of its cases"
+                self.say(printable(f"{path}: {what}: {why}"))
 
     def tell_slowest(self, all_reported: List[Reported], count: int) -> None:
         slowest = sorted((reported for reported in all_reported if reported.result), key=lambda reported: -reported.seconds)[:count]
         for reported in slowest:
-            self.say(readable(f"{reported.seconds:9.3f} s  {reported.name}"))
+            self.say(printable(f"{reported.seconds:9.3f} s  {reported.name}"))
 
     def tell_idle_rules(self, all_reported: List[Reported]) -> None:
         """The rules that found nothing, of each suite of which all cases were run."""
@@ -89,7 +108,7 @@ class Teller:
             rules, applied = own[0].suite.rules, applied_in(own)
             for at, normal in enumerate(rules.normal):
                 if at not in applied:
-                    self.say(readable(f"{path}: the rule {normal.pattern.pattern!r} found nothing"))
+                    self.say(printable(f"{path}: the rule {normal.pattern.pattern!r} found nothing"))
             for reported in own:
                 self._tell_own_idle_rules(reported)
 
@@ -98,15 +117,15 @@ class Teller:
         first = len(reported.suite.rules.normal)
         for at, normal in enumerate(reported.case.marks.normal, first):
             if reported.result and at not in applied:
-                self.say(readable(f"{reported.name}: its rule {normal.pattern.pattern!r} found nothing"))
+                self.say(printable(f"{reported.name}: its rule {normal.pattern.pattern!r} found nothing"))
 
     def tell_normalised(self, reported: Reported) -> None:
         """What the rules made of what came, where they changed it."""
         normalised = reported.suite.rules_of(reported.case).normalised(reported.got, set())
         if normalised != reported.got:
-            self.say(readable(f"normalised: {reported.name}"))
-            for line in normalised.split("\n"):
-                self.say("  " + readable(line))
+            self.say(printable(f"normalised: {reported.name}"))
+            for line in shortened(normalised.split("\n")):
+                self.say("  " + printable(line))
 
     def tell_counts(self, all_reported: List[Reported], seconds: float) -> None:
         counts: Dict[str, int] = {}

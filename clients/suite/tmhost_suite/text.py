@@ -9,11 +9,14 @@ from typing import Any, Dict, FrozenSet, List, Optional, Sequence, Tuple
 
 from tmhost_fences.blocks import LINE, Block, blocks_of, cut
 from tmhost_fences.fields import groups, language_in, whole
-from tmhost_fences.front import front_of, matter_end
+from tmhost_fences.front import Sessions, front_of, matter_end
+from tmhost_fences.info import LITERAL, info_of
+from tmhost_fences.near import near
 from tmhost_fences.troubles import Trouble, needed
+from tmhost_weave.meant import OTHERS, session_meant
 
 from .cases import Case, Suite
-from .marks import has_marks, read_marks, seconds, session_in
+from .marks import has_marks, is_text, read_marks, seconds, session_in
 from .rules import FORMULAS, PICTURES, Normal, Rules, allowance, normal_of
 
 ANSWER, ERROR = "answer", "error"
@@ -133,6 +136,30 @@ def is_after(block: Block, other: Block, lines: Sequence[str]) -> bool:
     return not any(line.strip(" \t>") for line in lines[block.end : other.begin])
 
 
+def misspelling(info: str, sessions: Sessions) -> Optional[str]:
+    """Why a fence may be meant for a case or what is wanted of one, though its word says that it is neither. None where that is as it should be."""
+    name = session_in(info) or info_of(info).name
+    if not name or is_text(info):
+        return None
+    known = (*sessions, ANSWER, ERROR)
+    if name in sessions and session_in(info) is None:
+        return f"`{{{name}}}` is a chunk of another program, and no fence of a session: is `{{.{name}}}` meant?"
+    if name in known:
+        return None
+    wanted = None if name.lower() in OTHERS else near(name, (ANSWER, ERROR))
+    if wanted:
+        return f"{ascii(name)}: is {wanted} meant?"
+    meant = session_meant(name, sessions)
+    if meant or has_marks(info):
+        return f"{ascii(name)} is no session ({', '.join(sessions)})" + (f": is {meant} meant?" if meant else "")
+    return None
+
+
+def misspellings(blocks: Sequence[Block], sessions: Sessions) -> List[Tuple[Block, str]]:
+    found = ((block, misspelling(block.info_text, sessions)) for block in blocks)
+    return [(block, why) for block, why in found if why]
+
+
 def names_sessions(text: str) -> bool:
     """Whether the front matter of a text names sessions."""
     return bool(front_of([cut(line)[0] for line in LINE.findall(text)]).sessions)
@@ -159,23 +186,24 @@ class Text:
         self.suite = Suite(path, self.sessions, rules_in(front), timeout_in(front), tuple(self.cases), doubts=tuple(self.doubts), folder=folder_in(front, path))
 
     def _read(self, lines: List[str], blocks: List[Block]) -> None:
+        # Before anything else, since a word that is misspelt has others at the wrong place.
+        doubts = [f"line {block.begin + 1}: {why}" for block, why in misspellings(blocks, self.sessions)]
+        if doubts:
+            raise Trouble(*doubts, f"{{{LITERAL}}} after the word of a fence says that it is text")
         at = 0
         while at < len(blocks):
             block = blocks[at]
             at += 1
             name = session_in(block.info_text)
+            if is_text(block.info_text):
+                continue
             if name in (ANSWER, ERROR) and name not in self.sessions:
                 raise Trouble(f"line {block.begin + 1}: an {name} stands after no case")
             if name is None or name not in self.sessions:
-                named = next((one for one, words in self.sessions.items() if name and os.path.basename(words[0]) == f"tmhost-{name}"), None)
-                if named:
-                    self.doubts.append(f"{self.path}: line {block.begin + 1}: no session has the name {ascii(name)} of this fence, which is no case: is {named} meant?")
-                elif name and has_marks(block.info_text):
-                    self.doubts.append(f"{self.path}: line {block.begin + 1}: no session has the name {ascii(name)} of this fence, which is no case")
                 continue
             found: Dict[str, Block] = {}
             while at < len(blocks) and is_after(blocks[at - 1], blocks[at], lines):
-                kind = session_in(blocks[at].info_text) or ""
+                kind = "" if is_text(blocks[at].info_text) else session_in(blocks[at].info_text) or ""
                 if kind not in (ANSWER, ERROR) or kind in found or kind in self.sessions:
                     break
                 found[kind] = blocks[at]
