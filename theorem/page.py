@@ -6,7 +6,7 @@ type that the theorem needs, in the order in which a reader meets them.
     theorem/page.py --check   says whether the pages are those that would be written; status 1 where they aren't
 
 They are made of head.md, worked.md and definitions.md of this folder. In these {crate.Module.name} and {crate::Type} are links to what DEFINITIONS.md then has, and
-{file crate.Module.name} is one to the file. {clause F N} is the clause N of the host's function F, {law F} a link to the function whose
+{file crate.Module.name} is one to the file, and {code crate.Module.name} the definition itself. {clause F N} is the clause N of the host's function F, {law F} a link to the function whose
 contract is a law, {mutant N} one to an edit that the proofs refuse, and {worked} the run of theorem/worked.py. Both forms of the command
 fail where a word of the pages' code is of the repository and isn't linked.
 """
@@ -31,7 +31,7 @@ PAGES = {
 DEFINITIONS = "DEFINITIONS.md"
 HOST = "crates/session_engine/src/host.rt"
 CALLS = ("crates/host_laws/src/made.rt", "crates/theorem/src/lib.rt")  # laws that make the call that they speak of
-PLACE = re.compile(r"\{(?:(?P<kind>clause \w+|law|mutant) (?P<word>\w+)|(?P<file>file )?(?P<module>\w+::|\w+(?:\.\w+)*\.)(?P<name>[\w']+))\}")
+PLACE = re.compile(r"\{(?:(?P<kind>clause \w+|law|mutant) (?P<word>\w+)|(?P<how>file |code )?(?P<module>\w+::|\w+(?:\.\w+)*\.)(?P<name>[\w']+))\}")
 
 # Definitions that the page links to in their files. What they say isn't needed: a definition that has them for words is followed by a law
 # that says all a reader needs of it, or REMARKS has the reason.
@@ -244,7 +244,7 @@ class Page:
             clause = self.sources.clause(HOST, match["kind"].removeprefix("clause "), match["word"])
             self.clauses[match[0]] = clause
             self.roots.extend(self.sources.needs(clause))
-        elif match["name"] and not match["file"]:
+        elif match["name"] and match["how"] != "file ":
             self.roots.append(self.key_of(match))
         return match[0]
 
@@ -260,7 +260,9 @@ class Page:
                 sys.exit(f"theorem/*.md name {match[0]}, and there is none")
             return f"[`{match['word']}`](../../{found[match['word']]})"
         key = self.key_of(match)
-        return f"[`{key[1]}`]({self.sources.definitions[key].place if match['file'] else self.link(key, DEFINITIONS)})"
+        if match["how"] == "code ":
+            return self.code(self.sources.definitions[key], DEFINITIONS)
+        return f"[`{key[1]}`]({self.sources.definitions[key].place if match['how'] else self.link(key, DEFINITIONS)})"
 
     def laws(self) -> dict[str, str]:
         """The functions that carry laws, those that make a call among them, with their places."""
