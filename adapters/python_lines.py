@@ -52,7 +52,7 @@ class Lines:
         """Runs the statements, and gives the value of the last one where it is an expression."""
         self.number += 1
         name = f"<line {self.number}>"
-        linecache.cache[name] = (len(text), None, text.splitlines(True), name)
+        linecache.cache[name] = (len(text), None, (text + "\n").splitlines(True), name)
         tree = ast.parse(text, name)
         last = tree.body.pop() if tree.body and isinstance(tree.body[-1], ast.Expr) else None
         exec(compile(tree, name, "exec"), self.names)

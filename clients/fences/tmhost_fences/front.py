@@ -1,8 +1,9 @@
 """The front matter of a text: YAML between two lines of `---`, in which the sessions stand, and `fences: whole` where each fence is one field."""
 import dataclasses
 import re
-from typing import Any, Dict, List, Sequence, Tuple
+from typing import Any, Dict, List, Optional, Sequence, Tuple
 
+from .near import near
 from .troubles import Trouble, needed
 
 NAME = re.compile(r"[A-Za-z0-9_]{1,20}", re.ASCII)  # without a hyphen: names of the worksheet's own have one
@@ -10,6 +11,7 @@ WORD = re.compile(r"[^\x00-\x20\ud800-\udfff]+")
 MOST_WORDS = 16
 LONGEST_WORD = 1024  # bytes
 WHOLE = "whole"
+KEY = re.compile(r"^[\"']?(\w+)[\"']?[ \t]*:", re.MULTILINE)
 NAMES_SESSIONS = re.compile(r"^[ \t]*[\"']?sessions[\"']?[ \t]*:", re.MULTILINE)
 
 Sessions = Dict[str, Tuple[str, ...]]
@@ -38,6 +40,13 @@ def front_of(lines: Sequence[str]) -> Front:
     return Front(end, *read_in(text)) if NAMES_SESSIONS.search(text) else Front(0, {})
 
 
+def sessions_meant(lines: Sequence[str]) -> Optional[str]:
+    """The key of a front matter without sessions that most likely is a misspelt `sessions`."""
+    text = "\n".join(lines[1 : max(1, matter_end(lines) - 1)])
+    found = (key for key in KEY.findall(text) if near(key.lower(), ["sessions"]) or key.lower() == "sessions")
+    return None if NAMES_SESSIONS.search(text) else next(found, None)
+
+
 def read_in(text: str) -> Tuple[Sessions, bool]:
     """The sessions, and whether each fence is one field."""
     yaml = needed("yaml", "python3-yaml")
@@ -49,6 +58,8 @@ def read_in(text: str) -> Tuple[Sessions, bool]:
     found: Sessions = {}
     is_whole = False
     for key, value in pairs(yaml, root, "the front matter"):
+        if key != "fences" and near(key.lower(), ["fences"]):
+            raise Trouble(f"the front matter has {ascii(key)}: is fences meant?")
         if key == "fences":
             is_whole = isinstance(value, yaml.ScalarNode) and value.value == WHOLE
             if not is_whole:

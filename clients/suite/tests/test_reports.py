@@ -106,6 +106,12 @@ class Tap(Case):
         self.assertEqual([one["verdict"] for one in found], ["differs", "ok", "xfail", "ok"])
         self.assertIn("\n- 1\n-\n-2\n+1", found[0]["diff"])
 
+    def test_what_would_be_lost(self) -> None:
+        """A report is written over no suite, nor over what is kept of one."""
+        for place in (self.path, self.other, self.path + ".run", self.path + ".run.alt"):
+            done = self.run_suite(self.path, self.other, "--tap", place)
+            self.assertEqual((done.status, done.errors), (1, f"tmhost-suite: --tap: {place} would be lost: name another file\n"), place)
+
     @unittest.skipUnless(shutil.which("prove"), "there is no prove")
     def test_prove_reads_version_13(self) -> None:
         for paths, result in (((self.path, self.other), "FAIL"), ((self.other,), "PASS")):

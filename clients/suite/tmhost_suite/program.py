@@ -15,6 +15,7 @@ from tmhost import Died, TmhostError, Worksheet
 from tmhost.program import show_building
 from tmhost.version import ShowVersion
 from tmhost_weave.files import put
+from tmhost_fences.targets import refuse_target
 from tmhost_fences.troubles import Trouble
 
 from . import kept as worksheets
@@ -233,14 +234,12 @@ class Runner:
 
     def _refuse_places(self) -> None:
         """A report that can't be written where it is wanted is refused before anything is evaluated, which may take hours."""
+        suites = [os.path.realpath(path) for path in self._paths()]
+        kept = [*suites, *(end for path in suites for run in [os.path.realpath(worksheets.sheet_path(path, self.given.runs))] for end in (run, run + ".alt"))]
         for name in FORMATS:
             path: Optional[str] = getattr(self.given, name)
-            if path is None or path == "-":
-                continue
-            if not os.path.isdir(os.path.dirname(path) or "."):
-                raise Trouble(f"--{name}: there is no folder {os.path.dirname(path)}")
-            if os.path.isdir(path):
-                raise Trouble(f"--{name}: {path} is a folder")
+            if path is not None and path != "-":
+                refuse_target(f"--{name}", path, kept)
 
     def _break_off(self) -> None:
         """Ends what runs, at once: what is done stands in the worksheets, and another run goes on from there."""

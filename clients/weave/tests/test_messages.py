@@ -125,6 +125,19 @@ class Troubles(Messages):
             errors = weave.communicate(timeout=60)[1]
         return weave.returncode, errors
 
+    def test_what_would_be_lost(self) -> None:
+        """No worksheet is written over, the text's own neither, and a misspelt front matter is refused."""
+        self.weave(self.front("a") + fences([("a", "x")]))
+        for place in (self.sheet, self.sheet + ".alt"):
+            done = self.run_weave("--output", place, self.text)
+            self.assertEqual((done.status, done.errors), (1, f"{self.text}: --output: {os.path.realpath(place)} would be lost: name another file\n"))
+        self.assertEqual(len(self.fields()), 1)
+        for key, meant in (("session", "sessions"), ("Sessions", "sessions"), ("fence", "fences")):
+            front = self.front("a").replace("sessions", key) if meant == "sessions" else self.front("a").replace("---\n", f"---\n{key}: whole\n", 1)
+            self.write(front + fences([("a", "x")]))
+            done = self.run_weave()
+            self.assertEqual((done.status, done.errors), (1, f"{self.text}: the front matter has '{key}': is {meant} meant?\n"))
+
     def test_an_interrupt(self) -> None:
         text = self.front("a") + fences([("a", "x"), ("a", "stuck"), ("a", "y")])
         self.write(text)

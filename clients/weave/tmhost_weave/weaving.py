@@ -19,6 +19,7 @@ from .formulas import parts_of
 from .pictures import Pictures
 from .plan import Plan, Wanted
 from .sheets import fit, has_no_space, make, opened, sheet_path, shorten
+from tmhost_fences.targets import refuse_target
 from tmhost_fences.troubles import Trouble
 
 MOST_REPORTED = 5  # kinds of fences, in a message
@@ -96,10 +97,8 @@ class Weave:
         self.shows_progress = sys.stderr.isatty()
         if self.sheet_path == self.path:
             raise Trouble("the text has the name of its worksheet")
-        if self.target and not os.path.isdir(os.path.dirname(self.target)):
-            raise Trouble(f"--output: there is no folder {os.path.dirname(self.target)}")
-        if self.target and os.path.isdir(self.target):
-            raise Trouble(f"--output: {self.target} is a folder")
+        if self.target and self.target != self.path:
+            refuse_target("--output", self.target, (self.sheet_path, self.sheet_path + ".alt"))
         self.data = read(self.path)
         self.document = Document(text_of(self.data))
         self.fields: Dict[int, Field] = {}
