@@ -60,6 +60,7 @@ EXPANDED: set[Key] = {
     ("driver_visits.Visits", "DrivenIsVisit"),
     ("driver_visits.Visits", "DurableAt"),
     ("driver_visits.Visits", "PrintedIsDurable"),
+    ("driver_visits.Acceptances", "AtMostOneMore"),
     ("driver_visits.Acceptances", "LeftByAcceptance"),
     ("driver_visits.Acceptances", "closing_after"),
     ("driver_visits.Acceptances", "ReportedAcceptance"),

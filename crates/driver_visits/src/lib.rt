@@ -1,7 +1,7 @@
 //! That whatever is driven over a disk is an invocation of the theorem (crate `theorem`), and that what it had printed when it was cut
-//! off was durable: premise A6, as a law of every sink whose relation names the disk, as that of `run`, `live` and `eval` does. And that what
-//! `check --accept` leaves is an acceptance of the theorem. So premise A7 holds of each program that opened its worksheet. The functions do nothing: their contracts
-//! are the laws.
+//! off was durable: premise A6, as a law of every sink whose relation names the disk, as that of `run`, `live` and `eval` does. And that
+//! what `check --accept` leaves at its end is an acceptance of the theorem. So premise A7 holds of each program that opened its worksheet.
+//! The functions do nothing: their contracts are the laws.
 #![tactic(auto)]
 
 ghost use Rattle.driver.specs.Noted.{noting_rules};

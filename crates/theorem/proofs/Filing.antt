@@ -124,7 +124,7 @@ all_did hosts one room before sheet acts after image (filing {mid = mid} {put = 
     let left = was_filing before sheet image one mid disk back ops put files crashed in
     let rest = all_did hosts one room mid left.0 others after left.2 more in
     record { last = rest.last; did = by_filing left.1 left.2 rest.did; image = rest.image }
-all_did hosts one room before sheet acts after image (has_filed {mid = mid} {put = put} {reported = reported} {acts = others} disk back ops files few holds crashed more) =
+all_did hosts one room before sheet acts after image (has_filed {mid = mid} {put = put} {reported = reported} {acts = others} disk back ops files holds crashed more) =
     let left = all_filed before sheet image one mid disk back ops put files reported holds crashed in
     let rest = all_did hosts one room mid left.0 others after left.2 more in
     record { last = rest.last; did = by_filing left.1 left.2 rest.did; image = rest.image }

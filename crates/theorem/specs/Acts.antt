@@ -32,10 +32,6 @@ abbrev pub AreAnswers : List Op → Type 0
 AreAnswers [] = Unit {0}
 AreAnswers (o ∷ ops) = PutsAnswer o × AreAnswers ops
 
--- all of these ops were reported, or all but the last
-abbrev pub AllButOne : List Op → List Op → Type 0
-AllButOne put reported = (put ≡ reported) ⊎ ((last : Op) × (put ≡ reported ++ last ∷ []))
-
 -- An image of the worksheet of these ops and of some of the first of more, with all of those that were reported.
 pub record HasFirst (ops more reported : List Op) (i : Image) : Type 0 where
   pub done : List Op
@@ -59,8 +55,7 @@ pub record Files (before : Image) (disk : DiskView) (ops more : List Op) (back :
   pub moments : InModel now (LeavesOnly (HasFirst ops more []) now.history back.history)
 
 -- Invocations of the program on the same files, one after another: those that have hosts or make reads alone, and acceptances between them. In
--- one that is cut off (A5), what it reported by then isn't known. At the end of one that wasn't, each image has all that it reported: that is
--- all that it put, or all but one answer, at which the disk failed.
+-- one that is cut off (A5), what it reported by then isn't known. At the end of one that wasn't, each image has all that it reported.
 pub data Uses (room : ℕ) : Image → List Act → Image → Type 0 where
   no_use : {at : Image} → Uses room at [] at
   turns_of : {before mid after : Image} {turns : List HostTurn} {acts : List Act} → Invocations room before turns mid → Uses room mid acts after
@@ -68,7 +63,7 @@ pub data Uses (room : ℕ) : Image → List Act → Image → Type 0 where
   filing : {before mid after : Image} {put : List Op} {acts : List Act} (disk back : DiskView) (ops : List Op) → (f : Files before disk ops put back)
       → CrashedSince f.now.history back.history mid → Uses room mid acts after → Uses room before (filed put [] ∷ acts) after
   has_filed : {before mid after : Image} {put reported : List Op} {acts : List Act} (disk back : DiskView) (ops : List Op) → (f : Files before disk ops put back)
-      → AllButOne put reported → InModel f.now (Leaves (HasFirst ops put reported) back.history.now)
+      → InModel f.now (Leaves (HasFirst ops put reported) back.history.now)
       → CrashedSince back.history back.history mid → Uses room mid acts after → Uses room before (filed put reported ∷ acts) after
 
 -- Some of the first of these ops were put after a worksheet, all of them that were reported. Each of them put an answer into a field.
