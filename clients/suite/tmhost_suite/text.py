@@ -11,9 +11,9 @@ from tmhost_fences.blocks import LINE, Block, blocks_of, cut
 from tmhost_fences.fields import groups, language_in, whole
 from tmhost_fences.front import Sessions, front_of, matter_end
 from tmhost_fences.info import LITERAL, info_of
+from tmhost_fences.meant import OTHERS, session_meant
 from tmhost_fences.near import near
 from tmhost_fences.troubles import Trouble, needed
-from tmhost_weave.meant import OTHERS, session_meant
 
 from .cases import Case, Suite
 from .marks import has_marks, is_text, read_marks, seconds, session_in

@@ -6,7 +6,7 @@ from typing import List, Tuple
 from .interpreter import value
 from .support import Case, answers, fences
 
-from tmhost_weave.meant import session_meant
+from tmhost_fences.meant import session_meant
 
 NONE = "no session is called {}, so this fence isn't evaluated: is {} meant? (As text it is `{}`)"
 

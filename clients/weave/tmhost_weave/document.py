@@ -8,11 +8,11 @@ from tmhost_fences.blocks import FENCE, LINE, Block, block_of, cut, tokens_of
 from tmhost_fences.fields import Group, groups, language_in, whole
 from tmhost_fences.front import Sessions, front_of, sessions_meant
 from tmhost_fences.info import ATTRIBUTES, LITERAL, OBEYED, is_hidden, is_without_text, wants_errors
+from tmhost_fences.meant import session_meant
 from tmhost_fences.near import near
 from tmhost_fences.troubles import Trouble
 
 from .answers import Finder, Shown, is_of_an_answer, lines_of
-from .meant import session_meant
 
 BARE_WORD = re.compile(r"[A-Za-z][A-Za-z-]*")
 TAB = 4  # columns

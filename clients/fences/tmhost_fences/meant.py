@@ -2,9 +2,9 @@
 import os
 from typing import Dict, List, Optional
 
-from tmhost_fences.fields import language_in
-from tmhost_fences.front import Sessions
-from tmhost_fences.near import near
+from .fields import language_in
+from .front import Sessions
+from .near import near
 
 COMMAND, BY_KERNEL = "tmhost-", "tmhost-jupyter"
 # Other names that fences have for the languages of adapters, in lower case.
