@@ -26,7 +26,7 @@ use worksheet::{Name, Sheet};
 
 /// A host that may hold records back (docs/dev/HOST.md, "Many events, one gate"). After `gather` an event that
 /// gives an op writes and syncs nothing; `flush` makes all that is owed durable, and one gate commits it.
-/// Each call is that of [`Host`](crate::Host) with its name.
+/// Its public calls answer as those of [`Host`](crate::Host) with their names, and what is owed counts as done.
 ///
 /// What the contracts say of `store.disk` is said of the disk as it is owed: as it would be if each record
 /// had been appended. As it stands it is `store.real`, and where nothing is owed they are one. Nothing may
