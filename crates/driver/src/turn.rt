@@ -19,7 +19,8 @@ pub enum Turn {
     /// What this life has is received and taken, and in the same group what others have that are ready: so many lives at
     /// most.
     Hear(Seat, u64),
-    /// These commands are taken as one group, one of each line from the one with this number on. None is a checkpoint.
+    /// These commands are taken as one group, one of each line from the one with this number on. The agenda puts no checkpoint among
+    /// them: with one the run would end as where memory lacks.
     Lines(u64, Vec<Event>),
     /// These commands are taken as one group, all of them or none: one of each line from the one with this number on.
     Whole(u64, Edits),

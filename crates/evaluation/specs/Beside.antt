@@ -1,5 +1,5 @@
--- Sessions side by side: which field is asked while others wait, and which of those that wait is interrupted next. (docs/use/SCRIPT.md,
--- "Evaluating a worksheet".)
+-- Sessions side by side: which field is asked while others wait, and which of those that wait the time is over for. (docs/use/EVAL.md, `--jobs` and
+-- `--timeout`.)
 use Rattle.std.specs.Prelude.{◌≡◌, ◌⊎◌, ◌==◌, ◌<◌, ◌≤◌, ◌+◌, ◌-◌, ◌&&◌, ℕ, Bool, true, false, not, List, Option, Some, None, length, nat_lt, option_map, slice_get}
 use Rattle.worksheet.specs.Checks.{field_in}
 use Rattle.worksheet.specs.declared.field.Field.{Field}

@@ -12,7 +12,7 @@ use thiserror::Error;
 /// Why a program ended early. The numbers and names that it prints are those of `fault_text`.
 #[derive(Clone, Copy, Debug, PartialEq, Eq, Error)]
 pub enum RunFault {
-    /// 40: the reader failed, an interruption included.
+    /// 40: the reader failed. Lines are read again after an interruption (crate `arrivals`); a stream that is read whole is not.
     #[error("the input could not be read")]
     Input,
     /// 41: the input has more than 67,108,864 bytes.

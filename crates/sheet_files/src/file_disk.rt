@@ -183,10 +183,10 @@ impl<F: DiskFile + Drop> FileDisk<F> {
 
     /// The length of an area's file.
     fn area_len(&mut self, area: Area) -> io::Result<u64>
-        ensures same { (two_files self.new.failures self.new.moment (F.view self.new.first) (second_of F.view self.new.second)) ≡ (two_files self.old.failures self.old.moment (F.view self.old.first) (second_of F.view self.old.second)) }
+        ensures same { ⟦<Self as Disk>⟧.view self.new ≡ ⟦<Self as Disk>⟧.view self.old }
         ensures bound { IfOk result (λ len. len ≤ greatest_room) }
-        ensures length { InModel (two_files self.old.failures self.old.moment (F.view self.old.first) (second_of F.view self.old.second))
-            (IfOk result (λ n. n ≡ length (area_of area (bytes_on (two_files self.old.failures self.old.moment (F.view self.old.first) (second_of F.view self.old.second)))))) }
+        ensures length { InModel (⟦<Self as Disk>⟧.view self.old)
+            (IfOk result (λ n. n ≡ length (area_of area (bytes_on (⟦<Self as Disk>⟧.view self.old))))) }
     {
         if self.failed {
             return Err(sync_failed());
@@ -206,13 +206,13 @@ impl<F: DiskFile + Drop> FileDisk<F> {
 
     /// Writes bytes to an area's file, where the disk isn't one that is only read.
     fn write(&mut self, area: Area, offset: u64, bytes: &[u8]) -> io::Result<()>
-        requires { InModel (two_files self.old.failures self.old.moment (F.view self.old.first) (second_of F.view self.old.second))
-            ((offset ≤ length (area_of area (bytes_on (two_files self.old.failures self.old.moment (F.view self.old.first) (second_of F.view self.old.second)))))
+        requires { InModel (⟦<Self as Disk>⟧.view self.old)
+            ((offset ≤ length (area_of area (bytes_on (⟦<Self as Disk>⟧.view self.old))))
             × (offset + length bytes.now ≤ greatest_room)) }
 
-        ensures kept { WithoutFailure (two_files self.old.failures self.old.moment (F.view self.old.first) (second_of F.view self.old.second)) (two_files self.new.failures self.new.moment (F.view self.new.first) (second_of F.view self.new.second)) }
-        ensures writes { InModel (two_files self.old.failures self.old.moment (F.view self.old.first) (second_of F.view self.old.second))
-            (Writes area offset bytes.now result (two_files self.old.failures self.old.moment (F.view self.old.first) (second_of F.view self.old.second)).history (two_files self.new.failures self.new.moment (F.view self.new.first) (second_of F.view self.new.second)).history) }
+        ensures kept { WithoutFailure (⟦<Self as Disk>⟧.view self.old) (⟦<Self as Disk>⟧.view self.new) }
+        ensures writes { InModel (⟦<Self as Disk>⟧.view self.old)
+            (Writes area offset bytes.now result (⟦<Self as Disk>⟧.view self.old).history (⟦<Self as Disk>⟧.view self.new).history) }
     {
         if self.lock == Lock::Shared {
             return Err(io::Error::from(ErrorKind::PermissionDenied));
@@ -240,13 +240,13 @@ impl<F: DiskFile + Drop> FileDisk<F> {
 
     /// Reads bytes of an area's file.
     fn read_into(&mut self, area: Area, offset: u64, buffer: &mut [u8]) -> io::Result<()>
-        requires { InModel (two_files self.old.failures self.old.moment (F.view self.old.first) (second_of F.view self.old.second))
-            (offset + length buffer.old ≤ length (area_of area (bytes_on (two_files self.old.failures self.old.moment (F.view self.old.first) (second_of F.view self.old.second))))) }
+        requires { InModel (⟦<Self as Disk>⟧.view self.old)
+            (offset + length buffer.old ≤ length (area_of area (bytes_on (⟦<Self as Disk>⟧.view self.old)))) }
 
-        ensures same { (two_files self.new.failures self.new.moment (F.view self.new.first) (second_of F.view self.new.second)) ≡ (two_files self.old.failures self.old.moment (F.view self.old.first) (second_of F.view self.old.second)) }
-        ensures bytes { InModel (two_files self.old.failures self.old.moment (F.view self.old.first) (second_of F.view self.old.second))
+        ensures same { ⟦<Self as Disk>⟧.view self.new ≡ ⟦<Self as Disk>⟧.view self.old }
+        ensures bytes { InModel (⟦<Self as Disk>⟧.view self.old)
             (OnOk result (buffer.new ≡ take (length buffer.old)
-            (drop offset (area_of area (bytes_on (two_files self.old.failures self.old.moment (F.view self.old.first) (second_of F.view self.old.second))))))) }
+            (drop offset (area_of area (bytes_on (⟦<Self as Disk>⟧.view self.old)))))) }
     {
         if self.failed {
             return Err(sync_failed());
@@ -262,9 +262,9 @@ impl<F: DiskFile + Drop> FileDisk<F> {
 
     /// Flushes an area's file to the disk. After a sync that failed no other is believed.
     fn sync_area(&mut self, area: Area) -> io::Result<()>
-        ensures kept { WithoutFailure (two_files self.old.failures self.old.moment (F.view self.old.first) (second_of F.view self.old.second)) (two_files self.new.failures self.new.moment (F.view self.new.first) (second_of F.view self.new.second)) }
-        ensures syncs { InModel (two_files self.old.failures self.old.moment (F.view self.old.first) (second_of F.view self.old.second))
-            (Syncs area result (two_files self.old.failures self.old.moment (F.view self.old.first) (second_of F.view self.old.second)).history (two_files self.new.failures self.new.moment (F.view self.new.first) (second_of F.view self.new.second)).history) }
+        ensures kept { WithoutFailure (⟦<Self as Disk>⟧.view self.old) (⟦<Self as Disk>⟧.view self.new) }
+        ensures syncs { InModel (⟦<Self as Disk>⟧.view self.old)
+            (Syncs area result (⟦<Self as Disk>⟧.view self.old).history (⟦<Self as Disk>⟧.view self.new).history) }
     {
         let moment = self.moment;
         if self.failed || moment == u64::MAX {
@@ -291,8 +291,8 @@ impl<F: DiskFile + Drop> FileDisk<F> {
 
     /// What a call answers that succeeded or not, where each failure is counted.
     fn answer<T: Drop>(&mut self, called: io::Result<T>) -> Result<T, DiskFault>
-        ensures called { Called result (two_files self.old.failures self.old.moment (F.view self.old.first) (second_of F.view self.old.second)) (two_files self.new.failures self.new.moment (F.view self.new.first) (second_of F.view self.new.second)) }
-        ensures history { (two_files self.new.failures self.new.moment (F.view self.new.first) (second_of F.view self.new.second)).history ≡ (two_files self.old.failures self.old.moment (F.view self.old.first) (second_of F.view self.old.second)).history }
+        ensures called { Called result (⟦<Self as Disk>⟧.view self.old) (⟦<Self as Disk>⟧.view self.new) }
+        ensures history { (⟦<Self as Disk>⟧.view self.new).history ≡ (⟦<Self as Disk>⟧.view self.old).history }
         ensures value { MatchResult called (λ value. result ≡ Ok value) (λ _. IsErr result) }
     {
         let before = self.failures;

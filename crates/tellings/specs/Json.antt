@@ -56,7 +56,7 @@ outcome_name interrupted.Failed = codes "failed"
 abbrev pub warned_json : Seat → Interrupted → List ℕ
 warned_json seat reported_of = telling_line (reported.event seat.name seat.life (reported.warned (outcome_name reported_of)))
 
--- what an evaluation came to, with what its limit of time came to where it had one
+-- what an evaluation came to, with how many fields were over and passed over, where these are counted
 abbrev pub counted_json : Counts → Option Overs → List ℕ
 counted_json counts None = telling_line (reported.counted counts.answered counts.unanswered counts.errors)
 counted_json counts (Some overs) = telling_line (reported.counted_in_time counts.answered counts.unanswered counts.errors overs.over overs.passed)

@@ -56,6 +56,10 @@ pub record WroteFront (old new : Option (List ℕ)) (text : List ℕ) : Type 0 w
 abbrev pub CutShort : Option (List ℕ) → Option (List ℕ) → List ℕ → RunFault → Type 0
 CutShort old new text why = why ≡ fault.OutOfMemory → WroteFront old new text
 
+-- nothing was written where there was no memory for the text
+abbrev pub Unwritten : {W : Type 0} → W → W → RunFault → Type 0
+Unwritten old new why = why ≡ fault.OutOfMemory → new ≡ old
+
 -- Why something isn't printed: the writer failed, or there was no memory for it.
 abbrev pub IsWithheld : Voice → RunFault → Type 0
 IsWithheld V why = (why ≡ fault.Output) ⊎ ((why ≡ fault.OutOfMemory) × (V.takes_memory ≡ true))

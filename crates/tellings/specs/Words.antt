@@ -30,7 +30,7 @@ interrupt_text name interrupted.Idle = codes "idle " ++ name ++ 10 ∷ []
 interrupt_text name interrupted.Sent = codes "interrupted " ++ name ++ 10 ∷ []
 interrupt_text name interrupted.Failed = codes "failed " ++ name ++ 10 ∷ []
 
--- the last line of an evaluation that has a limit of time
+-- the line of an evaluation that counts fields whose time was over, and fields that it passed over
 abbrev pub overs_text : Option Overs → List ℕ
 overs_text None = []
 overs_text (Some overs) = codes "over " ++ decimal overs.over ++ codes " passed " ++ decimal overs.passed ++ 10 ∷ []
@@ -42,7 +42,8 @@ answers_text counts = codes "answered " ++ decimal counts.answered ++ codes " un
 abbrev pub errors_text : ℕ → List ℕ
 errors_text errors = cond (errors == 0) [] (codes "errors " ++ decimal errors ++ 10 ∷ [])
 
--- what an evaluation came to: how many fields of the worksheet show an answer, how many an error, and what its limit of time came to
+-- what an evaluation came to: a line of the fields with and without an answer; one of those that show an error, where some do; and one of those that were
+-- over or passed over, where these are counted
 abbrev pub evaluation_text : Counts → List ℕ
 evaluation_text counts = answers_text counts ++ errors_text counts.errors ++ overs_text counts.overs
 
@@ -54,7 +55,7 @@ over_line id = codes "over " ++ decimal id ++ 10 ∷ []
 abbrev pub undone_line : ℕ → ℕ → List ℕ
 undone_line first last = codes "undone " ++ decimal first ++ codes " " ++ decimal last ++ 10 ∷ []
 
--- of a remark and of the end of a wait nothing is printed
+-- what is printed of a note: nothing of a remark and of the end of a wait
 abbrev pub note_words : Note → List ℕ
 note_words (note.Bad line) = bad_line line
 note_words (note.Nothing line) = []
@@ -74,7 +75,7 @@ abbrev pub exported_words : Format → Contents → List ℕ
 exported_words format sheet =
     cond (is_made_whole format) (needs_json format) (cond (has_text format sheet) (text_in format page_title sheet) (codes "no script\n"))
 
--- Words that people read: the number of a line is printed for a bad line alone, and a fault is printed elsewhere.
+-- Words that people read. The number of a line is printed for a bad line and for a transaction that was not done; a fault is printed elsewhere.
 abbrev pub in_words : Voice
 in_words = record {
   frame = λ f. [];

@@ -5,7 +5,7 @@ ghost use Rattle.std.specs.Io.KnownBytes.{Appends};
 ghost use Rattle.tellings.specs.Json as texts;
 ghost use Rattle.session_engine.specs.World.{World};
 ghost use Rattle.session_engine.specs.Host.{IsHost};
-ghost use Rattle.tellings.specs.Voice.{CutShort, IsWithheld, lives_text, numbered_text};
+ghost use Rattle.tellings.specs.Voice.{CutShort, IsWithheld, Unwritten, lives_text, numbered_text};
 ghost use Rattle.worksheet.specs.Contents.{Contents};
 
 use crate::exports::write_exported;
@@ -44,7 +44,7 @@ fn write_closed<W: Write>(
     ensures ok { OnOk result (Appends (W.contents writer.old) (W.contents writer.new)
         (texts.closed_json sheet.now.contents (option_copied next.entry) child.now)) }
     ensures err { IfErr result (IsWithheld texts.in_json) }
-    ensures unwritten { IfErr result (λ why. why ≡ RunFault.OutOfMemory → writer.new ≡ writer.old) }
+    ensures unwritten { IfErr result (Unwritten writer.old writer.new) }
 {
     match &child.closed {
         None => Ok(()),
@@ -68,7 +68,7 @@ fn write_default<W: Write>(
     ensures ok { OnOk result (Appends (W.contents writer.old) (W.contents writer.new)
         (texts.default_json child.now)) }
     ensures err { IfErr result (IsWithheld texts.in_json) }
-    ensures unwritten { IfErr result (λ why. why ≡ RunFault.OutOfMemory → writer.new ≡ writer.old) }
+    ensures unwritten { IfErr result (Unwritten writer.old writer.new) }
 {
     match &child.default_input {
         None => Ok(()),
@@ -88,7 +88,7 @@ fn write_ended<W: Write>(alloc: Global, child: &ChildReply, writer: &mut W) -> R
     ensures ok { OnOk result (Appends (W.contents writer.old) (W.contents writer.new)
         (texts.ended_json child.now)) }
     ensures err { IfErr result (IsWithheld texts.in_json) }
-    ensures unwritten { IfErr result (λ why. why ≡ RunFault.OutOfMemory → writer.new ≡ writer.old) }
+    ensures unwritten { IfErr result (Unwritten writer.old writer.new) }
 {
     match &child.ended {
         None => Ok(()),
@@ -169,7 +169,7 @@ fn write_stopped<W: Write>(
     ensures ok { OnOk result (Appends (W.contents writer.old) (W.contents writer.new)
         (texts.stopped_json line child.now)) }
     ensures err { IfErr result (IsWithheld texts.in_json) }
-    ensures unwritten { IfErr result (λ why. why ≡ RunFault.OutOfMemory → writer.new ≡ writer.old) }
+    ensures unwritten { IfErr result (Unwritten writer.old writer.new) }
 {
     let name = child.name.as_slice();
     match &child.ended {
@@ -191,7 +191,7 @@ fn write_reply<W: Write>(
     ensures ok { OnOk result (Appends (W.contents writer.old) (W.contents writer.new)
         (texts.reply_json line reply.now)) }
     ensures err { IfErr result (IsWithheld texts.in_json) }
-    ensures unwritten { IfErr result (λ why. why ≡ RunFault.OutOfMemory → writer.new ≡ writer.old) }
+    ensures unwritten { IfErr result (Unwritten writer.old writer.new) }
 {
     match reply {
         Reply::Done => write_made(alloc, done_value(alloc, line), writer),
@@ -228,7 +228,7 @@ fn write_outcomes<W: Write>(
 fn write_frame<W: Write>(alloc: Global, frame: Frame, writer: &mut W) -> Result<(), RunFault>
     ensures ok { OnOk result (Appends (W.contents writer.old) (W.contents writer.new) (texts.frame_json frame)) }
     ensures err { IfErr result (IsWithheld texts.in_json) }
-    ensures unwritten { IfErr result (λ why. why ≡ RunFault.OutOfMemory → writer.new ≡ writer.old) }
+    ensures unwritten { IfErr result (Unwritten writer.old writer.new) }
 {
     match frame {
         Frame::Hello => write_made(alloc, hello_value(alloc), writer),

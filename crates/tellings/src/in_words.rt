@@ -191,7 +191,7 @@ fn write_errors<W: Write>(errors: usize, writer: &mut W) -> Result<(), RunFault>
     Ok(())
 }
 
-/// Writes what a limit of time came to, where there was one.
+/// Writes how many fields were over and how many were passed over, where these are counted.
 fn write_overs<W: Write>(overs: Option<Overs>, writer: &mut W) -> Result<(), RunFault>
     ensures ok { OnOk result (Appends (W.contents writer.old) (W.contents writer.new)
         (overs_text overs)) }

@@ -16,12 +16,12 @@ pub enum Frame {
     NoProgram(Name),
 }
 
-/// What a limit of time came to in an evaluation.
+/// The fields of an evaluation that got no answer in time, and those that it did not ask.
 #[derive(Clone, Copy, Debug, PartialEq, Eq)]
 pub struct Overs {
-    /// For how many fields the time was over.
+    /// How many fields had their time over.
     pub over: u64,
-    /// How many fields were passed over.
+    /// How many fields were passed over, or stood after the stop of a strict evaluation.
     pub passed: u64,
 }
 
@@ -34,12 +34,11 @@ pub struct Counts {
     pub unanswered: usize,
     /// How many show an answer that is an error.
     pub errors: usize,
-    /// How many were over and passed over: with a limit of time, and where some were passed over.
+    /// How many were over and passed over: given with a limit of time, and where some were passed over.
     pub overs: Option<Overs>,
 }
 
-/// What is printed apart from replies and what comes of lives: of a line, or of a wait that it began, with the line's number, from 1, first;
-/// of a limit of time; and of an evaluation at its end.
+/// What is printed apart from replies and what comes of lives. Lines are numbered from 1.
 #[derive(Clone, Copy, Debug)]
 pub enum Note {
     /// The line has no known form, or is too long.

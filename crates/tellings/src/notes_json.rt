@@ -2,7 +2,7 @@
 ghost use Rattle.std.specs.Prelude.{◌≡◌, IfErr, OnOk};
 ghost use Rattle.std.specs.Io.KnownBytes.{Appends};
 ghost use Rattle.tellings.specs.Json as texts;
-ghost use Rattle.tellings.specs.Voice.{IsWithheld};
+ghost use Rattle.tellings.specs.Voice.{IsWithheld, Unwritten};
 
 use crate::writing::write_made;
 use crate::{Counts, Note};
@@ -38,7 +38,7 @@ fn write_warned<W: Write>(
     ensures ok { OnOk result (Appends (W.contents writer.old) (W.contents writer.new)
         (texts.warned_json seat reported)) }
     ensures err { IfErr result (IsWithheld texts.in_json) }
-    ensures unwritten { IfErr result (λ why. why ≡ RunFault.OutOfMemory → writer.new ≡ writer.old) }
+    ensures unwritten { IfErr result (Unwritten writer.old writer.new) }
 {
     let value = warned_value(alloc, seat.name.as_slice(), seat.life, outcome(reported));
     write_made(alloc, value, writer)
@@ -54,7 +54,7 @@ fn write_interrupt<W: Write>(
     ensures ok { OnOk result (Appends (W.contents writer.old) (W.contents writer.new)
         (texts.interrupt_json line reported)) }
     ensures err { IfErr result (IsWithheld texts.in_json) }
-    ensures unwritten { IfErr result (λ why. why ≡ RunFault.OutOfMemory → writer.new ≡ writer.old) }
+    ensures unwritten { IfErr result (Unwritten writer.old writer.new) }
 {
     match reported {
         Interrupted::NoSession => {
@@ -75,7 +75,7 @@ fn write_counts<W: Write>(alloc: Global, counts: Counts, writer: &mut W) -> Resu
     ensures ok { OnOk result (Appends (W.contents writer.old) (W.contents writer.new)
         (texts.counted_json counts counts.overs)) }
     ensures err { IfErr result (IsWithheld texts.in_json) }
-    ensures unwritten { IfErr result (λ why. why ≡ RunFault.OutOfMemory → writer.new ≡ writer.old) }
+    ensures unwritten { IfErr result (Unwritten writer.old writer.new) }
 {
     let counted = Counted {
         answered: counts.answered as u64,
@@ -100,7 +100,7 @@ pub(crate) fn write_note<W: Write>(
 ) -> Result<(), RunFault>
     ensures ok { OnOk result (Appends (W.contents writer.old) (W.contents writer.new) (texts.note_json note)) }
     ensures err { IfErr result (IsWithheld texts.in_json) }
-    ensures unwritten { IfErr result (λ why. why ≡ RunFault.OutOfMemory → writer.new ≡ writer.old) }
+    ensures unwritten { IfErr result (Unwritten writer.old writer.new) }
 {
     match note {
         Note::Bad(line) => write_made(alloc, bad_value(alloc, line), writer),

@@ -9,7 +9,7 @@ ghost use Rattle.session_engine.specs.Host.{IsHost};
 ghost use Rattle.worksheet.specs.Checks.{field_in};
 ghost use Rattle.sheet_json.specs.Objects.{session_data, telling_data};
 ghost use Rattle.tellings.specs.Json as texts;
-ghost use Rattle.tellings.specs.Voice.{CutShort, IsWithheld};
+ghost use Rattle.tellings.specs.Voice.{CutShort, IsWithheld, Unwritten};
 
 use crate::writing::write_made;
 use disk_model::Disk;
@@ -33,7 +33,7 @@ fn write_part<D: Disk, W: Write>(
     ensures ok { (w : World) → IsHost host.now w
         → OnOk result (Appends (W.contents writer.old) (W.contents writer.new) (texts.part_line line w field.now)) }
     ensures err { IfErr result (IsWithheld texts.in_json) }
-    ensures unwritten { IfErr result (λ why. why ≡ RunFault.OutOfMemory → writer.new ≡ writer.old) }
+    ensures unwritten { IfErr result (Unwritten writer.old writer.new) }
 {
     let waits = host.is_waiting(field.id);
     write_made(alloc, part_value(alloc, line, field, waits), writer)
@@ -137,7 +137,7 @@ pub(crate) fn write_field<D: Disk, W: Write>(
     ensures ok { (w : World) → IsHost host.now w → OnOk result (Appends (W.contents writer.old) (W.contents writer.new)
         (texts.field_json line w (field_in (sheet_in w).fields id))) }
     ensures err { IfErr result (IsWithheld texts.in_json) }
-    ensures unwritten { IfErr result (λ why. why ≡ RunFault.OutOfMemory → writer.new ≡ writer.old) }
+    ensures unwritten { IfErr result (Unwritten writer.old writer.new) }
 {
     match host.sheet().field(id) {
         Some(field) => {

@@ -17,7 +17,7 @@ pub trait Tells {
     ghost use Rattle.std.specs.Io.KnownBytes.{Appends};
     ghost use Rattle.session_engine.specs.World.{World};
     ghost use Rattle.session_engine.specs.Host.{IsHost};
-    ghost use Rattle.tellings.specs.Voice.{CutShort, IsWithheld, Voice, lives_text, numbered_text};
+    ghost use Rattle.tellings.specs.Voice.{CutShort, IsWithheld, Unwritten, Voice, lives_text, numbered_text};
 
     /// The texts that it writes.
     ghost voice: { Voice };
@@ -27,13 +27,13 @@ pub trait Tells {
         ensures ok { OnOk result (Appends (W.contents writer.old) (W.contents writer.new) (voice.frame frame)) }
         ensures still { voice.takes_memory ≡ false → writer.new ≡ writer.old }
         ensures err { IfErr result (λ why. (voice.takes_memory ≡ true) × IsWithheld voice why) }
-        ensures unwritten { IfErr result (λ why. why ≡ RunFault.OutOfMemory → writer.new ≡ writer.old) };
+        ensures unwritten { IfErr result (Unwritten writer.old writer.new) };
 
     /// Tells what comes of a line, or of a wait, apart from replies.
     fn note<W: Write>(&self, note: Note, writer: &mut W) -> Result<(), RunFault>
         ensures ok { OnOk result (Appends (W.contents writer.old) (W.contents writer.new) (voice.note note)) }
         ensures err { IfErr result (IsWithheld voice) }
-        ensures unwritten { IfErr result (λ why. why ≡ RunFault.OutOfMemory → writer.new ≡ writer.old) };
+        ensures unwritten { IfErr result (Unwritten writer.old writer.new) };
 
     /// Tells what commands gave that were taken together, one on each line from this one on, where this is the
     /// worksheet after them.
@@ -102,7 +102,7 @@ pub trait Tells {
         ensures ok { (w : World) → IsHost host.now w
             → OnOk result (Appends (W.contents writer.old) (W.contents writer.new) (voice.field line id w)) }
         ensures err { IfErr result (IsWithheld voice) }
-        ensures unwritten { IfErr result (λ why. why ≡ RunFault.OutOfMemory → writer.new ≡ writer.old) };
+        ensures unwritten { IfErr result (Unwritten writer.old writer.new) };
 
     /// Tells this worksheet in a format, for which this line asks, or that it isn't written in it.
     fn export<W: Write>(
@@ -115,7 +115,7 @@ pub trait Tells {
         ensures ok { OnOk result (Appends (W.contents writer.old) (W.contents writer.new)
             (voice.exported line format sheet.now.contents)) }
         ensures err { IfErr result (IsWithheld voice) }
-        ensures unwritten { IfErr result (λ why. why ≡ RunFault.OutOfMemory → writer.new ≡ writer.old) };
+        ensures unwritten { IfErr result (Unwritten writer.old writer.new) };
 
     /// Tells a fault, last of all, and whether that went out.
     fn fault<W: Write>(&self, why: RunFault, writer: &mut W) -> bool

@@ -6,7 +6,7 @@ ghost use Rattle.sheet_json.specs.Objects.{event_data, telling_data};
 ghost use Rattle.sheet_json.specs.Sheets.{telling_line};
 ghost use Rattle.sheet_json.specs.Tellings.{EventReported, Telling};
 ghost use Rattle.tellings.specs.Json.{event_line, in_json};
-ghost use Rattle.tellings.specs.Voice.{IsWithheld};
+ghost use Rattle.tellings.specs.Voice.{IsWithheld, Unwritten};
 
 use offline_programs::RunFault;
 use serde_json::Value;
@@ -19,7 +19,7 @@ fn write_line<W: Write>(alloc: Global, value: &Value, writer: &mut W) -> Result<
     ensures ok { (t : Telling) → view value.now ≡ telling_data t
         → OnOk result (Appends (W.contents writer.old) (W.contents writer.new) (telling_line t)) }
     ensures err { IfErr result (IsWithheld in_json) }
-    ensures unwritten { IfErr result (λ why. why ≡ RunFault.OutOfMemory → writer.new ≡ writer.old) }
+    ensures unwritten { IfErr result (Unwritten writer.old writer.new) }
 {
     match reported_bytes(alloc, value) {
         Ok(bytes) => writer
@@ -38,7 +38,7 @@ pub(crate) fn write_made<W: Write>(
     ensures ok { (t : Telling) → IfOk made (λ value. view value ≡ telling_data t)
         → OnOk result (Appends (W.contents writer.old) (W.contents writer.new) (telling_line t)) }
     ensures err { IfErr result (IsWithheld in_json) }
-    ensures unwritten { IfErr result (λ why. why ≡ RunFault.OutOfMemory → writer.new ≡ writer.old) }
+    ensures unwritten { IfErr result (Unwritten writer.old writer.new) }
 {
     match made {
         Ok(value) => write_line(alloc, &value, writer),
@@ -56,7 +56,7 @@ pub(crate) fn write_if<W: Write>(
         → IfOk made (λ value. option_map view value ≡ option_map (event_data session life) e)
         → OnOk result (Appends (W.contents writer.old) (W.contents writer.new) (event_line session life e)) }
     ensures err { IfErr result (IsWithheld in_json) }
-    ensures unwritten { IfErr result (λ why. why ≡ RunFault.OutOfMemory → writer.new ≡ writer.old) }
+    ensures unwritten { IfErr result (Unwritten writer.old writer.new) }
 {
     match made {
         Ok(Some(value)) => write_line(alloc, &value, writer),
