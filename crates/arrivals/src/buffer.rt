@@ -188,7 +188,8 @@ impl LineBuffer {
         ensures rest { self.new.bytes ≡ drop len self.old.bytes }
         ensures dropping { self.new.dropping ≡ false }
         ensures ended { self.new.ended ≡ self.old.ended }
-        ensures reported { Tells result self.new (first_line self.old.dropping (take len self.old.bytes)) }
+        ensures reported { Tells result self.new (first_line self.old.dropping
+            (take len self.old.bytes)) }
         ensures given { is_given result ≡ true }
     {
         let start = self.start;

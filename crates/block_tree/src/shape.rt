@@ -28,7 +28,8 @@ fn is_name(name: &[u8]) -> bool
 
 /// Whether each tag is right, no text is empty and no two texts stand side by side, at any depth.
 pub fn is_plain_node(node: &Node) -> bool
-    ensures { result ≡ (is_tag_name longest_tag (tree_of node.now).name && is_right longest_tag false
+    ensures { result ≡ (is_tag_name longest_tag (tree_of node.now).name
+        && is_right longest_tag false
         (tree_of node.now).items) }
 {
     if !is_name(node.tag.name.as_slice()) {

@@ -114,14 +114,16 @@ fn lines_in<'a>(alloc: Global, text: &'a [u8]) -> Result<Vec<&'a [u8]>, AllocErr
 fn is_same_at(old: &[&[u8]], new: &[&[u8]], at: usize) -> bool
     requires old { at < length old.now }
     requires new { at < length new.now }
-    ensures { result ≡ bytes_eq (get_or (map (λ line. line.now) old.now) at []) (get_or (map (λ line. line.now) new.now) at []) }
+    ensures { result ≡ bytes_eq (get_or (map (λ line. line.now) old.now) at [])
+        (get_or (map (λ line. line.now) new.now) at []) }
 {
     old[at] == new[at]
 }
 
 /// How many lines two lists of them begin with alike.
 fn count_common(old: &[&[u8]], new: &[&[u8]]) -> usize
-    ensures { result ≡ common_prefix_len bytes_eq (map (λ line. line.now) old.now) (map (λ line. line.now) new.now) }
+    ensures { result ≡ common_prefix_len bytes_eq (map (λ line. line.now) old.now)
+        (map (λ line. line.now) new.now) }
 {
     let most = old.len().min(new.len());
     for at in 0..most {
@@ -134,7 +136,8 @@ fn count_common(old: &[&[u8]], new: &[&[u8]]) -> usize
 
 /// Lines from the last to the first.
 fn turned<'a>(lines: Vec<&'a [u8]>) -> Vec<&'a [u8]>
-    ensures { map (λ line. line.now) result.items ≡ reverse (map (λ line. line.now) lines.entry.items) }
+    ensures { map (λ line. line.now) result.items
+        ≡ reverse (map (λ line. line.now) lines.entry.items) }
 {
     let mut lines = lines;
     lines.reverse();
@@ -156,7 +159,8 @@ pub(crate) fn find_hunk(alloc: Global, old: &[u8], new: &[u8]) -> Option<Hunk>
 
 /// How lines became others.
 fn hunk_between<'a>(olds: Vec<&'a [u8]>, news: Vec<&'a [u8]>) -> Hunk
-    ensures { result ≡ hunks.hunk_of (map (λ line. line.now) olds.entry.items) (map (λ line. line.now) news.entry.items) }
+    ensures { result ≡ hunks.hunk_of (map (λ line. line.now) olds.entry.items)
+        (map (λ line. line.now) news.entry.items) }
 {
     let old = olds.len();
     let new = news.len();

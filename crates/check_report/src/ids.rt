@@ -63,7 +63,8 @@ fn read_one(bytes: &[u8]) -> Option<Ids>
 
 /// From one number to another that is no smaller.
 fn read_range(first: &[u8], last: &[u8]) -> Option<Ids>
-    ensures { result ≡ lists.range_of (said.number_written first.now) (said.number_written last.now) }
+    ensures { result ≡ lists.range_of (said.number_written first.now)
+        (said.number_written last.now) }
 {
     let first = read_number(first)?;
     let last = read_number(last)?;

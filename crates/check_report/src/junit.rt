@@ -145,7 +145,8 @@ pub(crate) fn write_case<W: Write>(
     out: &mut W,
 ) -> Result<(), WriteFault>
     ensures { OnOk result (Appends (W.contents out.old) (W.contents out.new)
-        (junit.junit_case (point case.now.field.now.id case.now.field.now.session case.now.field.now.input case.now.verdict case.now.took reported.now))) }
+        (junit.junit_case (point case.now.field.now.id case.now.field.now.session
+        case.now.field.now.input case.now.verdict case.now.took reported.now))) }
 {
     write_start(
         case.field.id,

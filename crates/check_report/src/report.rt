@@ -115,7 +115,8 @@ fn write_as_point<W: Write>(
     writer: &mut W,
 ) -> Result<(), WriteFault>
     ensures { OnOk result (Appends (W.contents writer.old) (W.contents writer.new)
-        (taps.tap_point case.now.number (point case.now.field.now.id case.now.field.now.session case.now.field.now.input case.now.verdict case.now.took reported.now))) }
+        (taps.tap_point case.now.number (point case.now.field.now.id case.now.field.now.session
+        case.now.field.now.input case.now.verdict case.now.took reported.now))) }
 {
     write_point(case, reported, writer)?;
     writer.flush().map_err(|_| WriteFault)?;
@@ -129,7 +130,8 @@ fn write_as_case<W: Write>(
     writer: &mut W,
 ) -> Result<(), WriteFault>
     ensures { OnOk result (Appends (W.contents writer.old) (W.contents writer.new)
-        (junits.junit_case (point case.now.field.now.id case.now.field.now.session case.now.field.now.input case.now.verdict case.now.took reported.now))) }
+        (junits.junit_case (point case.now.field.now.id case.now.field.now.session
+        case.now.field.now.input case.now.verdict case.now.took reported.now))) }
 {
     write_case(case, reported, writer)?;
     writer.flush().map_err(|_| WriteFault)?;
@@ -139,7 +141,8 @@ fn write_as_case<W: Write>(
 /// Tells a field as a test point of TAP.
 fn report_point<W: Write>(alloc: Global, case: &Case<'_>, writer: &mut W) -> Result<(), ReportFault>
     ensures ok { OnOk result (Appends (W.contents writer.old) (W.contents writer.new)
-        (taps.tap_point case.now.number (point case.now.field.now.id case.now.field.now.session case.now.field.now.input case.now.verdict case.now.took
+        (taps.tap_point case.now.number (point case.now.field.now.id case.now.field.now.session
+        case.now.field.now.input case.now.verdict case.now.took
         (printed.verdict_text case.now.field.now case.now.came.now case.now.verdict)))) }
     ensures err { IfErr result (Unreported (W.contents writer.old) (W.contents writer.new)) }
 {
@@ -155,7 +158,8 @@ fn report_point<W: Write>(alloc: Global, case: &Case<'_>, writer: &mut W) -> Res
 /// Tells a field as a case in JUnit's XML.
 fn report_junit<W: Write>(alloc: Global, case: &Case<'_>, writer: &mut W) -> Result<(), ReportFault>
     ensures ok { OnOk result (Appends (W.contents writer.old) (W.contents writer.new)
-        (junits.junit_case (point case.now.field.now.id case.now.field.now.session case.now.field.now.input case.now.verdict case.now.took
+        (junits.junit_case (point case.now.field.now.id case.now.field.now.session
+        case.now.field.now.input case.now.verdict case.now.took
         (printed.verdict_text case.now.field.now case.now.came.now case.now.verdict)))) }
     ensures err { IfErr result (Unreported (W.contents writer.old) (W.contents writer.new)) }
 {

@@ -233,9 +233,11 @@ pub fn read_request(
     fields: FieldWords<'_>,
     limit: Option<u32>,
 ) -> Result<Request, RequestFault>
-    ensures ok { IfOk result (asked.Asks (asked.report_view report.entry) (asked.fields_view fields.entry)) }
+    ensures ok { IfOk result (asked.Asks (asked.report_view report.entry)
+        (asked.fields_view fields.entry)) }
     ensures within { IfOk result (λ request. request.limit ≡ limit) }
-    ensures err { IfErr result (asked.AsksFor (asked.report_view report.entry) (asked.fields_view fields.entry)) }
+    ensures err { IfErr result (asked.AsksFor (asked.report_view report.entry)
+        (asked.fields_view fields.entry)) }
 {
     let format = match read_report(report) {
         Ok(format) => format,

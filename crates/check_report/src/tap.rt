@@ -21,7 +21,8 @@ pub(crate) fn write_version<W: Write>(out: &mut W) -> Result<(), WriteFault>
 /// Writes the plan, which stands last.
 #[tactic(auto, using(crate::proofs::Written::steps))]
 pub(crate) fn write_plan<W: Write>(count: u64, out: &mut W) -> Result<(), WriteFault>
-    ensures { OnOk result (Appends (W.contents out.old) (W.contents out.new) (tap.plan_line count)) }
+    ensures { OnOk result (Appends (W.contents out.old) (W.contents out.new)
+        (tap.plan_line count)) }
 {
     write_bytes(b"1..", out)?;
     write_number(count, out)?;
@@ -183,7 +184,8 @@ pub(crate) fn write_point<W: Write>(
     out: &mut W,
 ) -> Result<(), WriteFault>
     ensures { OnOk result (Appends (W.contents out.old) (W.contents out.new)
-        (tap.tap_point case.now.number (point case.now.field.now.id case.now.field.now.session case.now.field.now.input case.now.verdict case.now.took reported.now))) }
+        (tap.tap_point case.now.number (point case.now.field.now.id case.now.field.now.session
+        case.now.field.now.input case.now.verdict case.now.took reported.now))) }
 {
     write_point_line(
         case.number,

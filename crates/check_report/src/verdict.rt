@@ -49,7 +49,14 @@ pub struct Counts {
 impl Counts {
     /// Of no evaluation.
     pub fn none() -> Counts
-        ensures { result ≡ record { same = 0; differ = 0; unanswered = 0; left_out = 0; errors = 0; new = 0 } }
+        ensures { result ≡ record {
+          same = 0;
+          differ = 0;
+          unanswered = 0;
+          left_out = 0;
+          errors = 0;
+          new = 0;
+        } }
     {
         Counts {
             same: 0,

@@ -43,7 +43,8 @@ pub(crate) fn outputs_in_memory(
 #[tactic(auto, using(crate::proofs::Marking::mark_steps))]
 fn write_marked<W: Write>(mark: &[u8], text: &[u8], writer: &mut W) -> Result<(), WriteFault>
     ensures { OnOk result
-        (Appends (W.contents writer.old) (W.contents writer.new) (printed.marked mark.now text.now)) }
+        (Appends (W.contents writer.old) (W.contents writer.new)
+        (printed.marked mark.now text.now)) }
 {
     let mut lines = text.lines_with_terminator();
     while let Some(line) = lines.next() {

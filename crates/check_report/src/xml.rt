@@ -10,7 +10,8 @@ use std::io::Write;
 
 /// Writes a byte, a mark of XML as its reference.
 fn write_reference<W: Write>(byte: u8, out: &mut W) -> Result<(), WriteFault>
-    ensures { OnOk result (Appends (W.contents out.old) (W.contents out.new) (xml.xml_reference byte)) }
+    ensures { OnOk result (Appends (W.contents out.old) (W.contents out.new)
+        (xml.xml_reference byte)) }
 {
     if byte == b'&' {
         return write_bytes(b"&amp;", out);

@@ -56,7 +56,8 @@ impl<L: Launcher + Drop> Lives<L> {
 
     /// Whether the child of this life runs: it was started and not stopped.
     pub fn runs(&self, seat: Seat) -> bool
-        ensures { result ≡ is_some (position (runs_for seat.name seat.life) self.now.running.items) }
+        ensures { result ≡ is_some (position (runs_for seat.name seat.life)
+            self.now.running.items) }
     {
         place(self.running.as_slice(), seat.name, seat.life).is_some()
     }
@@ -82,7 +83,8 @@ fn keep_memory(alloc: Global) {
 /// Makes room for a piece, where little is left, and takes all memory for it: a byte in front of it is shared at
 /// once, and a block that has been shared is shared again without memory. It is cleared once, not for each piece.
 fn make_room(alloc: Global, room: &mut BytesMut) -> Result<(), AllocError>
-    ensures ok { OnOk result ((0 < length room.new.items) × (length room.new.items ≤ longest_piece)) }
+    ensures ok { OnOk result ((0 < length room.new.items) × (length room.new.items
+        ≤ longest_piece)) }
     ensures err { OnErr result (room.new ≡ room.old) }
 {
     if (LEAST_ROOM..=LONGEST_PIECE).contains(&room.len()) {

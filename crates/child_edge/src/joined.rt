@@ -84,14 +84,17 @@ fn carry_joint<D: Disk, C: Children>(
     joint: &Joint,
     replies: &mut Vec<Reply>,
 ) -> Result<(), HostFault>
-    requires { vec_len replies.old + MOST_EVENTS * length joint.now.outcomes.items + MOST_EVENTS * length joint.now.later.items
+    requires { vec_len replies.old + MOST_EVENTS * length joint.now.outcomes.items
+        + MOST_EVENTS * length joint.now.later.items
         ≤ vec_capacity replies.old }
     ensures same { SameDisk host.old.store.disk host.new.store.disk }
     ensures ok { (w : World) → IsHost host.old w
-        → OnOk result (Ran (JointCarried C.after joint.now (at w children.old host.old.store.disk)) replies.old.items
+        → OnOk result (Ran (JointCarried C.after joint.now (at w children.old host.old.store.disk))
+        replies.old.items
         host.new children.new replies.new.items) }
     ensures err { (w : World) → IsHost host.old w
-        → IfErr result (BrokeOff (JointUpTo C.after joint.now (at w children.old host.old.store.disk)) replies.old.items
+        → IfErr result (BrokeOff (JointUpTo C.after joint.now
+        (at w children.old host.old.store.disk)) replies.old.items
         host.new children.new replies.new.items) }
 {
     match carry_each(host, children, joint.outcomes.as_slice(), replies) {
@@ -105,7 +108,8 @@ fn carry_joint<D: Disk, C: Children>(
 
 /// What they gave, with these replies.
 fn gave(joint: Joint, replies: Vec<Reply>) -> GaveJoined
-    ensures { (result.outcomes.items ≡ joint.outcomes.items) × (result.first ≡ joint.first) × (result.later.items ≡ joint.later.items)
+    ensures { (result.outcomes.items ≡ joint.outcomes.items) × (result.first ≡ joint.first)
+        × (result.later.items ≡ joint.later.items)
         × (result.replies.items ≡ replies.items) }
 {
     let Joint {
@@ -135,9 +139,11 @@ pub fn serve_joining<D: Disk, C: Children, J: Joins>(
     requires few { length events.items ≤ MOST_TOGETHER }
     ensures same { SameDisk host.old.store.disk host.new.store.disk }
     ensures ok { (w : World) → IsHost host.old w → IfOk result
-        (RanJoined (joining_edge C.after (asking J.joins joins.old joins.new)) (at w children.old host.old.store.disk) events.items host.new children.new) }
+        (RanJoined (joining_edge C.after (asking J.joins joins.old joins.new))
+        (at w children.old host.old.store.disk) events.items host.new children.new) }
     ensures err { (w : World) → IsHost host.old w → IfErr result
-        (FailsJoined (joining_edge C.after (asking J.joins joins.old joins.new)) (at w children.old host.old.store.disk) events.items host.new children.new) }
+        (FailsJoined (joining_edge C.after (asking J.joins joins.old joins.new))
+        (at w children.old host.old.store.disk) events.items host.new children.new) }
     ensures few { IfOk result (λ gave. (length gave.outcomes.items ≤ length events.items)
         × (length gave.later.items ≤ most_joined)) }
 {

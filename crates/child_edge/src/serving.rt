@@ -111,7 +111,8 @@ fn entry<D: Disk, C: Children>(
 ) -> Result<(Reply, Option<Event>), HostFault>
     ensures same { SameDisk host.old.store.disk host.new.store.disk }
     ensures ok { (w : World) → IsHost host.old w → IfOk result (λ r. (b : Entry) × (v : World)
-        × Entries C.after (at w children.old host.old.store.disk) event b (at v children.new host.new.store.disk) × IsHost host.new v
+        × Entries C.after (at w children.old host.old.store.disk) event b
+        (at v children.new host.new.store.disk) × IsHost host.new v
         × (r.0 ≡ b.outcome.reply) × (r.1 ≡ due_after b)) }
     ensures err { (w : World) → IsHost host.old w
         → IfErr result (Stopped host.old.store.disk host.new w event) }
@@ -147,10 +148,12 @@ pub(crate) fn follow<D: Disk, C: Children>(
     requires { vec_len replies.old + MOST_EVENTS ≤ vec_capacity replies.old }
     ensures same { SameDisk host.old.store.disk host.new.store.disk }
     ensures ok { (w : World) → IsHost host.old w
-        → OnOk result (Ran (Served C.after (at w children.old host.old.store.disk) event) replies.old.items
+        → OnOk result (Ran (Served C.after (at w children.old host.old.store.disk) event)
+        replies.old.items
         host.new children.new replies.new.items) }
     ensures err { (w : World) → IsHost host.old w
-        → IfErr result (BrokeOff (ServedUpTo C.after (at w children.old host.old.store.disk) event) replies.old.items
+        → IfErr result (BrokeOff (ServedUpTo C.after (at w children.old host.old.store.disk) event)
+        replies.old.items
         host.new children.new replies.new.items) }
     ensures closed { host.old.closed ≡ true → IsErrOf result HostFault.Closed }
     ensures still { host.old.closed ≡ true → (host.new ≡ host.old)
@@ -252,10 +255,12 @@ pub(crate) fn take<D: Disk, C: Children>(
 ) -> Result<(), EdgeCause>
     ensures same { SameDisk host.old.store.disk host.new.store.disk }
     ensures ok { (w : World) → IsHost host.old w
-        → OnOk result (Ran (Taken (hearing C.after listens) None seat (at w children.old host.old.store.disk)) replies.old.items
+        → OnOk result (Ran (Taken (hearing C.after listens) None seat
+        (at w children.old host.old.store.disk)) replies.old.items
         host.new children.new replies.new.items) }
     ensures err { (w : World) → IsHost host.old w → IfErr result (λ cause. ByCause cause
-        (BrokeOff (TakenUpTo (hearing C.after listens) seat (at w children.old host.old.store.disk)) replies.old.items
+        (BrokeOff (TakenUpTo (hearing C.after listens) seat (at w children.old host.old.store.disk))
+        replies.old.items
         host.new children.new replies.new.items)
         ((host.new ≡ host.old) × (children.new ≡ children.old)
         × (replies.new.items ≡ replies.old.items))) }

@@ -36,7 +36,8 @@ pub fn stop_all<D: Disk, C: Children>(host: &Host<D>, children: &mut C)
 
     // Those of a world of which the host has the worksheet and each life's number, whatever its disk is.
     ensures numbered { (w : World) → host.now.store.sheet.contents ≡ sheet_in w
-        → ((name : List ℕ) → number_in host.now.lives name ≡ option_map (λ l. l.number) (life_of w name))
+        → ((name : List ℕ) → number_in host.now.lives name ≡ option_map (λ l. l.number)
+        (life_of w name))
         → Stops C.after (running w) children.old children.new }
 {
     for session in host.sheet().sessions() {

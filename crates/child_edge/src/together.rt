@@ -101,10 +101,12 @@ fn carry_one<D: Disk, C: Children>(
     requires { vec_len replies.old + MOST_EVENTS ≤ vec_capacity replies.old }
     ensures same { SameDisk host.old.store.disk host.new.store.disk }
     ensures ok { (w : World) → IsHost host.old w
-        → OnOk result (Ran (OneCarried C.after outcome.now (at w children.old host.old.store.disk)) replies.old.items
+        → OnOk result (Ran (OneCarried C.after outcome.now (at w children.old host.old.store.disk))
+        replies.old.items
         host.new children.new replies.new.items) }
     ensures err { (w : World) → IsHost host.old w
-        → IfErr result (BrokeOff (OneUpTo C.after outcome.now (at w children.old host.old.store.disk)) replies.old.items
+        → IfErr result (BrokeOff (OneUpTo C.after outcome.now
+        (at w children.old host.old.store.disk)) replies.old.items
         host.new children.new replies.new.items) }
     ensures capacity { vec_capacity replies.new ≡ vec_capacity replies.old }
     ensures len { vec_len replies.new ≤ vec_len replies.old + MOST_EVENTS }
@@ -128,10 +130,12 @@ pub(crate) fn carry_each<D: Disk, C: Children>(
     requires { vec_len replies.old + MOST_EVENTS * length outcomes.now ≤ vec_capacity replies.old }
     ensures same { SameDisk host.old.store.disk host.new.store.disk }
     ensures ok { (w : World) → IsHost host.old w
-        → OnOk result (Ran (CarriedSoFar C.after outcomes.now (length outcomes.now) (at w children.old host.old.store.disk)) replies.old.items
+        → OnOk result (Ran (CarriedSoFar C.after outcomes.now (length outcomes.now)
+        (at w children.old host.old.store.disk)) replies.old.items
         host.new children.new replies.new.items) }
     ensures err { (w : World) → IsHost host.old w
-        → IfErr result (BrokeOff (EachUpTo C.after outcomes.now (at w children.old host.old.store.disk)) replies.old.items
+        → IfErr result (BrokeOff (EachUpTo C.after outcomes.now
+        (at w children.old host.old.store.disk)) replies.old.items
         host.new children.new replies.new.items) }
     ensures capacity { vec_capacity replies.new ≡ vec_capacity replies.old }
     ensures len { vec_len replies.new ≤ vec_len replies.old + MOST_EVENTS * length outcomes.now }
@@ -160,9 +164,11 @@ pub fn serve_together<D: Disk, C: Children>(
     requires few { length events.items ≤ MOST_TOGETHER }
     ensures same { SameDisk host.old.store.disk host.new.store.disk }
     ensures ok { (w : World) → IsHost host.old w → IfOk result
-        (RanTogether C.after (at w children.old host.old.store.disk) events.items host.new children.new) }
+        (RanTogether C.after (at w children.old host.old.store.disk) events.items host.new
+        children.new) }
     ensures err { (w : World) → IsHost host.old w → IfErr result
-        (FailsTogether C.after (at w children.old host.old.store.disk) events.items host.new children.new) }
+        (FailsTogether C.after (at w children.old host.old.store.disk) events.items host.new
+        children.new) }
 {
     let count = events.len();
     let mut replies = Vec::new(alloc);

@@ -101,7 +101,8 @@ impl Waiting {
         ensures over { (s : At C) (bs : List Entry) (w : World) → IsHost host.old w
             → Came C.after self.old s bs (at w children.old host.old.store.disk)
             → IfOk result (λ more. more ≡ false
-            → Waited C.after most_turns s bs (at w children.old host.old.store.disk) × (host.new ≡ host.old)
+            → Waited C.after most_turns s bs (at w children.old host.old.store.disk)
+            × (host.new ≡ host.old)
             × (children.new ≡ children.old) × (replies.new.items ≡ replies.old.items)) }
         ensures err { (s : At C) (bs : List Entry) (w : World) → IsHost host.old w
             → Came C.after self.old s bs (at w children.old host.old.store.disk)

@@ -13,8 +13,10 @@ use session_engine::{Edits, Host, Whole, WholeFault};
 /// worksheet, and that nothing is owed to the host's disk before the call and after it.
 fn play<D: Disk>(host: &mut Host<D>, edits: Edits) -> Result<Whole, WholeFault>
     ensures same { SameDisk host.old.store.real host.new.store.real }
-    ensures made { (w : World) → IsHost host.old w → IfOk result (MadeWhole w edits host.old host.new) }
-    ensures halts { (w : World) → IsHost host.old w → IfErr result (HaltsWhole w edits host.old host.new) }
+    ensures made { (w : World) → IsHost host.old w
+        → IfOk result (MadeWhole w edits host.old host.new) }
+    ensures halts { (w : World) → IsHost host.old w
+        → IfErr result (HaltsWhole w edits host.old host.new) }
     ensures few { IfOk result (HasAtMost (length edits)) }
     ensures edits { OnlyEdits edits }
     ensures before { host.old.store.real ≡ host.old.store.disk }
@@ -34,8 +36,10 @@ fn play<D: Disk>(host: &mut Host<D>, edits: Edits) -> Result<Whole, WholeFault>
 /// the host was closed.
 pub fn serve_whole<D: Disk>(host: &mut Host<D>, edits: Edits) -> Result<Whole, WholeFault>
     ensures same { SameDisk host.old.store.disk host.new.store.disk }
-    ensures ok { (w : World) → IsHost host.old w → IfOk result (ServesWhole w edits host.old host.new) }
-    ensures err { (w : World) → IsHost host.old w → IfErr result (FailsWhole w edits host.old host.new) }
+    ensures ok { (w : World) → IsHost host.old w
+        → IfOk result (ServesWhole w edits host.old host.new) }
+    ensures err { (w : World) → IsHost host.old w
+        → IfErr result (FailsWhole w edits host.old host.new) }
     ensures few { IfOk result (HasAtMost (length edits)) }
 {
     match play(host, edits) {

@@ -39,7 +39,8 @@ fn command_with<'a>(
     row: Row,
     words: &'static [Word],
 ) -> Result<Command<'a>, AllocError>
-    ensures made { IfOk result (λ command. app_of command ≡ with_words (new_app row.name.now) words.now) }
+    ensures made { IfOk result (λ command. app_of command ≡ with_words (new_app row.name.now)
+        words.now) }
     ensures local { IfOk result (λ command. (fields_of command).has_globals ≡ false) }
 {
     let mut command = plain(alloc, row);

@@ -193,7 +193,8 @@ fn task_of_export<'a>(format: &'a str, path: &'a str, at: Option<&'a str>) -> Ta
 /// The task of `restore`. `clap` refuses words without a number.
 fn task_of_restore<'a>(path: &'a str, changes: Option<&'a str>, new: &'a str) -> Task<'a>
     ensures { task_view result
-        ≡ asked.restore_by path.entry.now (option_map (λ text. text.now) changes.entry) new.entry.now }
+        ≡ asked.restore_by path.entry.now (option_map (λ text. text.now) changes.entry)
+        new.entry.now }
 {
     match changes {
         Some(changes) => Task::Restore(path, changes, new),
@@ -203,7 +204,8 @@ fn task_of_restore<'a>(path: &'a str, changes: Option<&'a str>, new: &'a str) ->
 
 /// The task of a subcommand with a path.
 fn task_with_path<'a>(name: &str, path: &'a str, flags: Flags<'a>) -> Task<'a>
-    ensures { task_view result ≡ by_words name.now path.entry.now None None (flags_view flags.entry) }
+    ensures { task_view result ≡ by_words name.now path.entry.now None None
+        (flags_view flags.entry) }
 {
     match name {
         "create" => Task::Create(path),
@@ -350,7 +352,8 @@ fn flags_of<'a>(alloc: Global, matches: &ArgMatches<'a>) -> Result<Flags<'a>, Al
 
 /// The task of the matches.
 fn task_of<'a>(alloc: Global, matches: &ArgMatches<'a>) -> Result<Task<'a>, AllocError>
-    ensures { IfOk result (λ task. task_view task ≡ by_subcommand (subcommand_rows_of matches.now)) }
+    ensures { IfOk result (λ task. task_view task ≡ by_subcommand
+        (subcommand_rows_of matches.now)) }
 {
     let Some((name, inner)) = matches.subcommand() else {
         return Ok(Task::Blocks);

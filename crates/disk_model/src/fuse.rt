@@ -31,7 +31,8 @@ impl Fuse {
         ensures counts { self.new.calls ≡ min (self.old.calls + 1) self.old.k }
         ensures same { (self.new.k ≡ self.old.k) × (self.new.mode ≡ self.old.mode) }
         ensures passed { OnOk result (self.new.refused ≡ self.old.refused) }
-        ensures counted { OnErr result (self.new.refused ≡ min (self.old.refused + 1) greatest_count) }
+        ensures counted { OnErr result (self.new.refused ≡ min (self.old.refused + 1)
+            greatest_count) }
         ensures refused { OnErr result
             (Rises self.old.refused self.new.refused × (self.old.refused ≤ self.new.refused)) }
     {

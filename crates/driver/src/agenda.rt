@@ -34,5 +34,6 @@ pub trait Agenda: Joins {
 
     /// The turn was taken and printed. What is noted of what came of it.
     fn heed<D: Disk>(&mut self, host: &Host<D>, now: u64, came: &Came) -> Option<Note>
-        ensures { (w : World) → IsHost host.now w → rules.heeds self.old w now (came_of came.now) result self.new };
+        ensures { (w : World) → IsHost host.now w
+            → rules.heeds self.old w now (came_of came.now) result self.new };
 }

@@ -25,7 +25,8 @@ impl<D: Disk, S: Sources, K: Sink, A: Agenda> Driver<D, S, K, A> {
     /// Takes an event by itself.
     fn take_event(&mut self, event: Event) -> Result<Outcome, RunFault>
         ensures same { SameDisk self.old.host.store.disk self.new.host.store.disk }
-        ensures did { DrivesUpTo ⟦<Self as Driven>⟧.rules self.old (taking_alone event ∷ []) (λ o. carrying o ∷ []) result self.new }
+        ensures did { DrivesUpTo ⟦<Self as Driven>⟧.rules self.old (taking_alone event ∷ [])
+            (λ o. carrying o ∷ []) result self.new }
         ensures less { (w : World) → IsHost self.old.host w
             → IfOk result (λ o. (a : Option Answer) → rank (due_of o.effect a) < rank_of event) }
     {
@@ -38,7 +39,8 @@ impl<D: Disk, S: Sources, K: Sink, A: Agenda> Driver<D, S, K, A> {
     /// Prints what an event gave by itself, and has the agenda heed it.
     fn print_event(&mut self, outcome: Outcome) -> Result<(), RunFault>
         ensures same { SameDisk self.old.host.store.disk self.new.host.store.disk }
-        ensures did { Drives ⟦<Self as Driven>⟧.rules self.old (printing None (outcome ∷ []) []) result self.new }
+        ensures did { Drives ⟦<Self as Driven>⟧.rules self.old
+            (printing None (outcome ∷ []) []) result self.new }
     {
         if let Err(why) = self.print_lives(slice::from_ref(&outcome)) {
             return Err(why);
@@ -52,8 +54,10 @@ impl<D: Disk, S: Sources, K: Sink, A: Agenda> Driver<D, S, K, A> {
     /// Takes an event by itself, carries its effect out, and prints what it gave. The event of the fault that the call met.
     fn take_one(&mut self, event: Event) -> Result<Option<Event>, RunFault>
         ensures same { SameDisk self.old.host.store.disk self.new.host.store.disk }
-        ensures did { DrivesUpTo ⟦<Self as Driven>⟧.rules self.old (taking_alone event ∷ []) taking_due result self.new }
-        ensures less { (w : World) → IsHost self.old.host w → IfOk result (λ due. rank due < rank_of event) }
+        ensures did { DrivesUpTo ⟦<Self as Driven>⟧.rules self.old
+            (taking_alone event ∷ []) taking_due result self.new }
+        ensures less { (w : World) → IsHost self.old.host w
+            → IfOk result (λ due. rank due < rank_of event) }
     {
         let outcome = match self.take_event(event) {
             Ok(outcome) => outcome,
@@ -69,7 +73,8 @@ impl<D: Disk, S: Sources, K: Sink, A: Agenda> Driver<D, S, K, A> {
     /// Takes an event by itself, with all that comes of it: at most two events more.
     pub(crate) fn take_alone(&mut self, event: Event) -> Result<(), RunFault>
         ensures same { SameDisk self.old.host.store.disk self.new.host.store.disk }
-        ensures did { Drives ⟦<Self as Driven>⟧.rules self.old (taking_alone event ∷ []) result self.new }
+        ensures did { Drives ⟦<Self as Driven>⟧.rules self.old
+            (taking_alone event ∷ []) result self.new }
     {
         let mut due = Some(event);
         for _ in 0..MOST_EVENTS {
@@ -87,7 +92,8 @@ impl<D: Disk, S: Sources, K: Sink, A: Agenda> Driver<D, S, K, A> {
     /// Receives from this life, and takes what it gives by itself.
     pub(crate) fn receive(&mut self, seat: Seat) -> Result<(), RunFault>
         ensures same { SameDisk self.old.host.store.disk self.new.host.store.disk }
-        ensures did { Drives ⟦<Self as Driven>⟧.rules self.old (receiving seat ∷ []) result self.new }
+        ensures did { Drives ⟦<Self as Driven>⟧.rules self.old
+            (receiving seat ∷ []) result self.new }
     {
         match receive_event(&mut self.sources, seat) {
             Ok(event) => self.take_alone(event),

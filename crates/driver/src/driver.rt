@@ -89,9 +89,11 @@ impl<D: Disk, S: Sources, K: Sink, A: Agenda> Driver<D, S, K, A> {
     /// Takes events as one group: those of lives, or of lines from this one on.
     fn take(&mut self, from: Option<u64>, events: Vec<Event>) -> Result<GaveTogether, RunFault>
         ensures same { SameDisk self.old.host.store.disk self.new.host.store.disk }
-        ensures did { DrivesUpTo ⟦<Self as Driven>⟧.rules self.old (taking from events.items ∷ []) (λ gave. printing from gave.outcomes.items gave.replies.items) result self.new }
+        ensures did { DrivesUpTo ⟦<Self as Driven>⟧.rules self.old (taking from events.items ∷ [])
+            (λ gave. printing from gave.outcomes.items gave.replies.items) result self.new }
         ensures few { IfOk result (λ gave. length gave.outcomes.items ≤ most_together) }
-        ensures counted { IfOk result (λ gave. IfSome from (λ number. number + most_together + 1 < 2 ^ 64)) }
+        ensures counted { IfOk result (λ gave. IfSome from (λ number. number + most_together + 1 < 2
+            ^ 64)) }
     {
         if events.len() > MOST_TOGETHER {
             return Err(RunFault::InputTooLong);
@@ -120,7 +122,8 @@ impl<D: Disk, S: Sources, K: Sink, A: Agenda> Driver<D, S, K, A> {
         requires few { length outcomes.now ≤ most_together }
         requires counted { IfSome from (λ number. number + most_together + 1 < 2 ^ 64) }
         ensures same { SameDisk self.old.host.store.disk self.new.host.store.disk }
-        ensures did { Drives ⟦<Self as Driven>⟧.rules self.old (to_print (group_of from outcomes.now) ∷ []) result self.new }
+        ensures did { Drives ⟦<Self as Driven>⟧.rules self.old
+            (to_print (group_of from outcomes.now) ∷ []) result self.new }
     {
         match from {
             Some(number) => self.sink.lines(&self.host, number, outcomes),
@@ -131,7 +134,8 @@ impl<D: Disk, S: Sources, K: Sink, A: Agenda> Driver<D, S, K, A> {
     /// Prints the replies to what followed effects.
     pub(crate) fn print_followed(&mut self, replies: &[Reply]) -> Result<(), RunFault>
         ensures same { SameDisk self.old.host.store.disk self.new.host.store.disk }
-        ensures did { Drives ⟦<Self as Driven>⟧.rules self.old (to_print (report.followed replies.now) ∷ []) result self.new }
+        ensures did { Drives ⟦<Self as Driven>⟧.rules self.old
+            (to_print (report.followed replies.now) ∷ []) result self.new }
     {
         self.sink.followed(&self.host, replies)
     }
@@ -139,7 +143,8 @@ impl<D: Disk, S: Sources, K: Sink, A: Agenda> Driver<D, S, K, A> {
     /// Shows this.
     fn show(&mut self, show: Show) -> Result<(), RunFault>
         ensures same { SameDisk self.old.host.store.disk self.new.host.store.disk }
-        ensures did { Drives ⟦<Self as Driven>⟧.rules self.old (to_print (report.shown show) ∷ []) result self.new }
+        ensures did { Drives ⟦<Self as Driven>⟧.rules self.old
+            (to_print (report.shown show) ∷ []) result self.new }
     {
         self.sink.show(&self.host, show)
     }
@@ -147,7 +152,8 @@ impl<D: Disk, S: Sources, K: Sink, A: Agenda> Driver<D, S, K, A> {
     /// Has the agenda heed what came, and prints what it notes of that.
     pub(crate) fn heed(&mut self, came: &Came) -> Result<(), RunFault>
         ensures same { SameDisk self.old.host.store.disk self.new.host.store.disk }
-        ensures did { Drives ⟦<Self as Driven>⟧.rules self.old (heeding (came_of came.now) ∷ []) result self.new }
+        ensures did { Drives ⟦<Self as Driven>⟧.rules self.old
+            (heeding (came_of came.now) ∷ []) result self.new }
     {
         let now = self.sources.now();
         match self.agenda.heed(&self.host, now, came) {
@@ -165,7 +171,8 @@ impl<D: Disk, S: Sources, K: Sink, A: Agenda> Driver<D, S, K, A> {
         requires few { length gave.outcomes.items ≤ most_together }
         requires counted { IfSome from (λ number. number + most_together + 1 < 2 ^ 64) }
         ensures same { SameDisk self.old.host.store.disk self.new.host.store.disk }
-        ensures did { Drives ⟦<Self as Driven>⟧.rules self.old (printing from gave.outcomes.items gave.replies.items) result self.new }
+        ensures did { Drives ⟦<Self as Driven>⟧.rules self.old
+            (printing from gave.outcomes.items gave.replies.items) result self.new }
     {
         if let Err(why) = self.print_outcomes(from, gave.outcomes.as_slice()) {
             return Err(why);
@@ -179,7 +186,8 @@ impl<D: Disk, S: Sources, K: Sink, A: Agenda> Driver<D, S, K, A> {
     /// Takes events as one group, and prints what they gave.
     fn take_and_print(&mut self, from: Option<u64>, events: Vec<Event>) -> Result<(), RunFault>
         ensures same { SameDisk self.old.host.store.disk self.new.host.store.disk }
-        ensures did { Drives ⟦<Self as Driven>⟧.rules self.old (taking from events.items ∷ []) result self.new }
+        ensures did { Drives ⟦<Self as Driven>⟧.rules self.old
+            (taking from events.items ∷ []) result self.new }
     {
         match self.take(from, events) {
             Ok(gave) => self.print_group(from, gave),
@@ -190,7 +198,8 @@ impl<D: Disk, S: Sources, K: Sink, A: Agenda> Driver<D, S, K, A> {
     /// Receives from this life, and from so many others at most that are ready, and takes what they have.
     fn hear(&mut self, seat: Seat, most: u64) -> Result<(), RunFault>
         ensures same { SameDisk self.old.host.store.disk self.new.host.store.disk }
-        ensures did { Drives ⟦<Self as Driven>⟧.rules self.old (hearing seat most ∷ []) result self.new }
+        ensures did { Drives ⟦<Self as Driven>⟧.rules self.old
+            (hearing seat most ∷ []) result self.new }
     {
         match hear_ready(self.alloc, &mut self.sources, seat, most) {
             Ok(events) => self.join_and_print(events),
@@ -202,7 +211,8 @@ impl<D: Disk, S: Sources, K: Sink, A: Agenda> Driver<D, S, K, A> {
     pub(crate) fn print_alone(&mut self, line: u64, outcome: Outcome) -> Result<(), RunFault>
         requires { line + most_together + 1 < 2 ^ 64 }
         ensures same { SameDisk self.old.host.store.disk self.new.host.store.disk }
-        ensures did { Drives ⟦<Self as Driven>⟧.rules self.old (printing (Some line) (outcome ∷ []) []) result self.new }
+        ensures did { Drives ⟦<Self as Driven>⟧.rules self.old
+            (printing (Some line) (outcome ∷ []) []) result self.new }
     {
         if let Err(why) = self.print_outcomes(Some(line), slice::from_ref(&outcome)) {
             return Err(why);
@@ -216,7 +226,8 @@ impl<D: Disk, S: Sources, K: Sink, A: Agenda> Driver<D, S, K, A> {
     /// Rewrites the journal, for which this line asks.
     fn rewrite(&mut self, line: u64) -> Result<(), RunFault>
         ensures same { SameDisk self.old.host.store.disk self.new.host.store.disk }
-        ensures did { Drives ⟦<Self as Driven>⟧.rules self.old (rewriting line ∷ []) result self.new }
+        ensures did { Drives ⟦<Self as Driven>⟧.rules self.old
+            (rewriting line ∷ []) result self.new }
     {
         if line > MOST_COUNTED {
             return Err(RunFault::InputTooLong);
@@ -244,7 +255,8 @@ impl<D: Disk, S: Sources, K: Sink, A: Agenda> Driver<D, S, K, A> {
     /// Interrupts the interpreter of this session.
     fn interrupt(&mut self, name: Name) -> Result<(), RunFault>
         ensures same { SameDisk self.old.host.store.disk self.new.host.store.disk }
-        ensures did { Drives ⟦<Self as Driven>⟧.rules self.old (interrupting name ∷ []) result self.new }
+        ensures did { Drives ⟦<Self as Driven>⟧.rules self.old
+            (interrupting name ∷ []) result self.new }
     {
         let result = interrupt(&self.host, &mut self.sources, name);
         self.heed(&Came::Interrupted(result))
@@ -253,7 +265,8 @@ impl<D: Disk, S: Sources, K: Sink, A: Agenda> Driver<D, S, K, A> {
     /// Watches the sources, and gives the agenda whose turn it is.
     fn watch(&mut self, input: Input, patience: Option<u64>) -> Result<(), RunFault>
         ensures same { SameDisk self.old.host.store.disk self.new.host.store.disk }
-        ensures did { Drives ⟦<Self as Driven>⟧.rules self.old (watching (asked input patience) ∷ []) result self.new }
+        ensures did { Drives ⟦<Self as Driven>⟧.rules self.old
+            (watching (asked input patience) ∷ []) result self.new }
     {
         match self.sources.watch(input, patience) {
             Ok(woken) => {
@@ -267,7 +280,8 @@ impl<D: Disk, S: Sources, K: Sink, A: Agenda> Driver<D, S, K, A> {
     /// Shows this, and has the agenda heed that it was shown.
     fn show_and_heed(&mut self, show: Show) -> Result<(), RunFault>
         ensures same { SameDisk self.old.host.store.disk self.new.host.store.disk }
-        ensures did { Drives ⟦<Self as Driven>⟧.rules self.old (to_print (report.shown show) ∷ heeding (came_by [] []) ∷ []) result self.new }
+        ensures did { Drives ⟦<Self as Driven>⟧.rules self.old
+            (to_print (report.shown show) ∷ heeding (came_by [] []) ∷ []) result self.new }
     {
         match self.show(show) {
             Ok(()) => self.heed(&Came::Shown),

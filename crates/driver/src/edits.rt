@@ -21,7 +21,8 @@ impl<D: Disk, S: Sources, K: Sink, A: Agenda> Driver<D, S, K, A> {
     /// Takes commands as one group: all of them, or up to the first that is refused.
     fn take_first(&mut self, up_to: bool, edits: Edits) -> Result<Vec<Outcome>, RunFault>
         ensures same { SameDisk self.old.host.store.disk self.new.host.store.disk }
-        ensures did { DrivesUpTo ⟦<Self as Driven>⟧.rules self.old (taking_edits up_to edits ∷ []) (λ outcomes. printing None outcomes.items []) result self.new }
+        ensures did { DrivesUpTo ⟦<Self as Driven>⟧.rules self.old (taking_edits up_to edits ∷ [])
+            (λ outcomes. printing None outcomes.items []) result self.new }
     {
         match serve_edits(&mut self.host, edits, up_to) {
             Ok(outcomes) => Ok(outcomes),
@@ -32,7 +33,8 @@ impl<D: Disk, S: Sources, K: Sink, A: Agenda> Driver<D, S, K, A> {
     /// Prints what events gave whose lines have no number.
     pub(crate) fn print_lives(&mut self, outcomes: &[Outcome]) -> Result<(), RunFault>
         ensures same { SameDisk self.old.host.store.disk self.new.host.store.disk }
-        ensures did { Drives ⟦<Self as Driven>⟧.rules self.old (to_print (report.lives outcomes.now) ∷ []) result self.new }
+        ensures did { Drives ⟦<Self as Driven>⟧.rules self.old
+            (to_print (report.lives outcomes.now) ∷ []) result self.new }
     {
         self.sink.lives(&self.host, outcomes)
     }
@@ -40,7 +42,8 @@ impl<D: Disk, S: Sources, K: Sink, A: Agenda> Driver<D, S, K, A> {
     /// Prints what commands gave, and has the agenda heed it.
     fn print_edits(&mut self, outcomes: Vec<Outcome>) -> Result<(), RunFault>
         ensures same { SameDisk self.old.host.store.disk self.new.host.store.disk }
-        ensures did { Drives ⟦<Self as Driven>⟧.rules self.old (printing None outcomes.items []) result self.new }
+        ensures did { Drives ⟦<Self as Driven>⟧.rules self.old
+            (printing None outcomes.items []) result self.new }
     {
         if let Err(why) = self.print_lives(outcomes.as_slice()) {
             return Err(why);
@@ -55,7 +58,8 @@ impl<D: Disk, S: Sources, K: Sink, A: Agenda> Driver<D, S, K, A> {
     /// Takes commands as one group, all of them or up to the first that is refused, and prints what they gave.
     pub(crate) fn take_edits(&mut self, up_to: bool, edits: Edits) -> Result<(), RunFault>
         ensures same { SameDisk self.old.host.store.disk self.new.host.store.disk }
-        ensures did { Drives ⟦<Self as Driven>⟧.rules self.old (taking_edits up_to edits ∷ []) result self.new }
+        ensures did { Drives ⟦<Self as Driven>⟧.rules self.old
+            (taking_edits up_to edits ∷ []) result self.new }
     {
         match self.take_first(up_to, edits) {
             Ok(outcomes) => self.print_edits(outcomes),

@@ -12,9 +12,11 @@ use std::alloc::{AllocError, Global};
 
 /// Receives from the next life that is ready still, where there is one and memory for what it has. Whether it did.
 fn hear_next<S: Sources>(sources: &mut S, events: &mut Vec<Event>) -> bool
-    ensures more { result ≡ true → (event : Said) × HearsNext (source_rules S.after S.wakes S.clock) sources.old event sources.new
+    ensures more { result ≡ true → (event : Said)
+        × HearsNext (source_rules S.after S.wakes S.clock) sources.old event sources.new
         × (events.new.items ≡ events.old.items ++ event ∷ []) }
-    ensures none { result ≡ false → WatchedAgain (source_rules S.after S.wakes S.clock) sources.old sources.new
+    ensures none { result ≡ false → WatchedAgain (source_rules S.after S.wakes S.clock) sources.old
+        sources.new
         × (events.new.items ≡ events.old.items) }
     ensures one { length events.new.items ≤ length events.old.items + 1 }
 {
@@ -42,7 +44,8 @@ pub(crate) fn hear_ready<S: Sources>(
     seat: Seat,
     most: u64,
 ) -> Result<Vec<Event>, AllocError>
-    ensures ok { IfOk result (λ events. HeardReady (source_rules S.after S.wakes S.clock) seat most sources.old events.items sources.new) }
+    ensures ok { IfOk result (λ events. HeardReady (source_rules S.after S.wakes S.clock) seat most
+        sources.old events.items sources.new) }
     ensures err { OnErr result (sources.new ≡ sources.old) }
 {
     let mut events = Vec::new(alloc);

@@ -26,9 +26,11 @@ impl<D: Disk, S: Sources, K: Sink, A: Agenda> Driver<D, S, K, A> {
         ensures did { (n : ℕ) (rest : List Item) (w : World) → IsHost self.old.host w
             → DidSteps ⟦<Self as Driven>⟧.rules (seen n w (driver_parts self.old))
             (joining events.items ∷ rest)
-            (left_by_answer (λ gave. printing_joined gave.first gave.outcomes.items gave.later.items gave.replies.items rest)) result
+            (left_by_answer (λ gave. printing_joined gave.first gave.outcomes.items gave.later.items
+            gave.replies.items rest)) result
             (n, driver_parts self.new) }
-        ensures few { IfOk result (λ gave. (length gave.outcomes.items ≤ most_together) × (length gave.later.items ≤ most_together)) }
+        ensures few { IfOk result (λ gave. (length gave.outcomes.items ≤ most_together)
+            × (length gave.later.items ≤ most_together)) }
     {
         if events.len() > MOST_TOGETHER {
             return Err(RunFault::InputTooLong);
@@ -67,11 +69,13 @@ impl<D: Disk, S: Sources, K: Sink, A: Agenda> Driver<D, S, K, A> {
 
     /// Prints what events of lives gave, and those that joined them, and what followed, and has the agenda heed it.
     fn print_all(&mut self, gave: GaveJoined) -> Result<(), RunFault>
-        requires few { (length gave.outcomes.items ≤ most_together) × (length gave.later.items ≤ most_together) }
+        requires few { (length gave.outcomes.items ≤ most_together)
+            × (length gave.later.items ≤ most_together) }
         ensures same { SameDisk self.old.host.store.disk self.new.host.store.disk }
         ensures did { (n : ℕ) (rest : List Item) (w : World) → IsHost self.old.host w
             → DidSteps ⟦<Self as Driven>⟧.rules (seen n w (driver_parts self.old))
-            (printing_joined gave.first gave.outcomes.items gave.later.items gave.replies.items rest) (left_by_answer (λ done. rest)) result
+            (printing_joined gave.first gave.outcomes.items gave.later.items gave.replies.items
+            rest) (left_by_answer (λ done. rest)) result
             (n, driver_parts self.new) }
     {
         if let Err(why) = self.print_outcomes(None, gave.outcomes.as_slice()) {
@@ -89,7 +93,8 @@ impl<D: Disk, S: Sources, K: Sink, A: Agenda> Driver<D, S, K, A> {
     /// Takes events of lives with those that join them, and prints what they gave.
     pub(crate) fn join_and_print(&mut self, events: Vec<Event>) -> Result<(), RunFault>
         ensures same { SameDisk self.old.host.store.disk self.new.host.store.disk }
-        ensures did { Drives ⟦<Self as Driven>⟧.rules self.old (joining events.items ∷ []) result self.new }
+        ensures did { Drives ⟦<Self as Driven>⟧.rules self.old
+            (joining events.items ∷ []) result self.new }
     {
         match self.join(events) {
             Ok(gave) => self.print_all(gave),

@@ -36,9 +36,11 @@ pub fn run_over<D: Disk, S: Sources, K: Sink, A: Agenda>(
     agenda: A,
 ) -> Over<D, S, K, A>
     ensures same { SameDisk (D.view disk) (D.view result.disk) }
-    ensures over { IsOver (rules (agenda_rules A.rules A.joins) (source_rules S.after S.wakes S.clock) K.rules)
+    ensures over { IsOver (rules (agenda_rules A.rules A.joins)
+        (source_rules S.after S.wakes S.clock) K.rules)
         (program_parts (D.view disk) sources sink agenda)
-        (program_parts (D.view result.disk) result.sources result.sink result.agenda) result.answer }
+        (program_parts (D.view result.disk) result.sources result.sink result.agenda)
+        result.answer }
 {
     let host = match Host::open(alloc, disk) {
         Ok(host) => host,

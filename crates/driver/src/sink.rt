@@ -35,37 +35,46 @@ pub trait Sink {
     ) -> Result<(), RunFault>
         requires { first + length outcomes.now < 2 ^ 64 }
         ensures tries { (w : World) → IsHost host.now w
-            → Tries rules self.old host.now.store.disk (printed_text rules.voice w (report.lines first outcomes.now)) (is_ok result) self.new }
+            → Tries rules self.old host.now.store.disk (printed_text rules.voice w
+            (report.lines first outcomes.now)) (is_ok result) self.new }
         ensures err { IfErr result (IsWithheld rules.voice) }
         ensures cut { (w : World) → IsHost host.now w
-            → IfErr result (CutShort (rules.written self.old) (rules.written self.new) (printed_text rules.voice w (report.lines first outcomes.now))) };
+            → IfErr result (CutShort (rules.written self.old) (rules.written self.new)
+            (printed_text rules.voice w (report.lines first outcomes.now))) };
 
     /// Prints what events gave whose lines have no number, those of lives and of a script, and flushes nothing: `followed` comes
     /// after it.
     fn lives<D: Disk>(&mut self, host: &Host<D>, outcomes: &[Outcome]) -> Result<(), RunFault>
         ensures tries { (w : World) → IsHost host.now w
-            → Tries rules self.old host.now.store.disk (printed_text rules.voice w (report.lives outcomes.now)) (is_ok result) self.new }
+            → Tries rules self.old host.now.store.disk (printed_text rules.voice w
+            (report.lives outcomes.now)) (is_ok result) self.new }
         ensures err { IfErr result (IsWithheld rules.voice) }
         ensures cut { (w : World) → IsHost host.now w
-            → IfErr result (CutShort (rules.written self.old) (rules.written self.new) (printed_text rules.voice w (report.lives outcomes.now))) };
+            → IfErr result (CutShort (rules.written self.old) (rules.written self.new)
+            (printed_text rules.voice w (report.lives outcomes.now))) };
 
     /// Prints the replies to what followed effects.
     fn followed<D: Disk>(&mut self, host: &Host<D>, replies: &[Reply]) -> Result<(), RunFault>
         ensures tries { (w : World) → IsHost host.now w
-            → Tries rules self.old host.now.store.disk (printed_text rules.voice w (report.followed replies.now)) (is_ok result) self.new }
+            → Tries rules self.old host.now.store.disk (printed_text rules.voice w
+            (report.followed replies.now)) (is_ok result) self.new }
         ensures err { IfErr result (IsWithheld rules.voice) }
         ensures cut { (w : World) → IsHost host.now w
-            → IfErr result (CutShort (rules.written self.old) (rules.written self.new) (printed_text rules.voice w (report.followed replies.now))) };
+            → IfErr result (CutShort (rules.written self.old) (rules.written self.new)
+            (printed_text rules.voice w (report.followed replies.now))) };
 
     /// Prints this.
     fn show<D: Disk>(&mut self, host: &Host<D>, show: Show) -> Result<(), RunFault>
         ensures tries { (w : World) → IsHost host.now w
-            → Tries rules self.old host.now.store.disk (printed_text rules.voice w (report.shown show)) (is_ok result) self.new }
+            → Tries rules self.old host.now.store.disk (printed_text rules.voice w
+            (report.shown show)) (is_ok result) self.new }
         ensures err { IfErr result (IsWithheld rules.voice) }
         ensures cut { (w : World) → IsHost host.now w
-            → IfErr result (CutShort (rules.written self.old) (rules.written self.new) (printed_text rules.voice w (report.shown show))) };
+            → IfErr result (CutShort (rules.written self.old) (rules.written self.new)
+            (printed_text rules.voice w (report.shown show))) };
 
     /// Prints a fault, last of all. Whether that went out.
     fn print_fault<D: Disk>(&mut self, host: &Host<D>, why: RunFault) -> bool
-        ensures { Tries rules self.old host.now.store.disk (rules.voice.fault why) result self.new };
+        ensures { Tries rules self.old host.now.store.disk (rules.voice.fault why) result
+            self.new };
 }

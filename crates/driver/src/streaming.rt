@@ -37,9 +37,12 @@ pub fn run_voiced<D: Disk, S: Sources, T: Tells + Copy, W: Stamped, A: Agenda>(
     agenda: A,
 ) -> OverStream<D, S, W, A>
     ensures same { SameDisk (D.view disk) (D.view result.disk) }
-    ensures over { IsOver (rules (agenda_rules A.rules A.joins) (source_rules S.after S.wakes S.clock) (noting_rules T.voice W.held))
-        (program_parts (D.view disk) sources (printed_so_far (W.contents voiced.writer) true) agenda)
-        (program_parts (D.view result.disk) result.sources (printed_so_far (W.contents result.writer) result.whole) result.agenda) result.answer }
+    ensures over { IsOver (rules (agenda_rules A.rules A.joins)
+        (source_rules S.after S.wakes S.clock) (noting_rules T.voice W.held))
+        (program_parts (D.view disk) sources (printed_so_far (W.contents voiced.writer) true)
+        agenda)
+        (program_parts (D.view result.disk) result.sources (printed_so_far
+        (W.contents result.writer) result.whole) result.agenda) result.answer }
 {
     let sink = Noting {
         sink: voiced,

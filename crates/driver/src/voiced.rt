@@ -32,10 +32,12 @@ fn print_life<D: Disk, T: Tells, W: Write>(
     tells: &T,
     writer: &mut W,
 ) -> Result<(), RunFault>
-    ensures ok { (w : World) → IsHost host.now w → OnOk result (Appends (W.contents writer.old) (W.contents writer.new)
+    ensures ok { (w : World) → IsHost host.now w
+        → OnOk result (Appends (W.contents writer.old) (W.contents writer.new)
         (lives_text T.voice w (spoken outcome.now.reply))) }
     ensures err { IfErr result (IsWithheld T.voice) }
-    ensures cut { (w : World) → IsHost host.now w → IfErr result (CutShort (W.contents writer.old) (W.contents writer.new)
+    ensures cut { (w : World) → IsHost host.now w
+        → IfErr result (CutShort (W.contents writer.old) (W.contents writer.new)
         (lives_text T.voice w (spoken outcome.now.reply))) }
 {
     match &outcome.reply {
@@ -51,10 +53,12 @@ fn print_lives<D: Disk, T: Tells, W: Write>(
     tells: &T,
     writer: &mut W,
 ) -> Result<(), RunFault>
-    ensures ok { (w : World) → IsHost host.now w → OnOk result (Appends (W.contents writer.old) (W.contents writer.new)
+    ensures ok { (w : World) → IsHost host.now w
+        → OnOk result (Appends (W.contents writer.old) (W.contents writer.new)
         (lives_report T.voice w outcomes.now)) }
     ensures err { IfErr result (IsWithheld T.voice) }
-    ensures cut { (w : World) → IsHost host.now w → IfErr result (CutShort (W.contents writer.old) (W.contents writer.new)
+    ensures cut { (w : World) → IsHost host.now w
+        → IfErr result (CutShort (W.contents writer.old) (W.contents writer.new)
         (lives_report T.voice w outcomes.now)) }
 {
     for outcome in outcomes {

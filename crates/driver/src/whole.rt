@@ -22,7 +22,8 @@ impl<D: Disk, S: Sources, K: Sink, A: Agenda> Driver<D, S, K, A> {
     /// Takes commands of lines from this one on as one group, all of them or none.
     fn take_all(&mut self, first: u64, edits: Edits) -> Result<Whole, RunFault>
         ensures same { SameDisk self.old.host.store.disk self.new.host.store.disk }
-        ensures did { DrivesUpTo ⟦<Self as Driven>⟧.rules self.old (taking_whole first edits ∷ []) (printing_whole first) result self.new }
+        ensures did { DrivesUpTo ⟦<Self as Driven>⟧.rules self.old (taking_whole first edits ∷ [])
+            (printing_whole first) result self.new }
         ensures few { IfOk result (HasAtMost most_together) }
         ensures counted { OnOk result (first + most_together + 1 < 2 ^ 64) }
     {
@@ -43,7 +44,8 @@ impl<D: Disk, S: Sources, K: Sink, A: Agenda> Driver<D, S, K, A> {
         requires few { before ≤ most_together }
         requires counted { first + most_together + 1 < 2 ^ 64 }
         ensures same { SameDisk self.old.host.store.disk self.new.host.store.disk }
-        ensures did { Drives ⟦<Self as Driven>⟧.rules self.old (printing (Some (first + before)) (last ∷ []) []) result self.new }
+        ensures did { Drives ⟦<Self as Driven>⟧.rules self.old
+            (printing (Some (first + before)) (last ∷ []) []) result self.new }
     {
         let number = first + before;
         if is_uncounted(Some(number)) {
@@ -57,7 +59,8 @@ impl<D: Disk, S: Sources, K: Sink, A: Agenda> Driver<D, S, K, A> {
         requires few { HasAtMost most_together whole }
         requires counted { first + most_together + 1 < 2 ^ 64 }
         ensures same { SameDisk self.old.host.store.disk self.new.host.store.disk }
-        ensures did { Drives ⟦<Self as Driven>⟧.rules self.old (printing_whole first whole) result self.new }
+        ensures did { Drives ⟦<Self as Driven>⟧.rules self.old
+            (printing_whole first whole) result self.new }
     {
         match whole {
             Whole::Taken(outcomes) => {
@@ -71,7 +74,8 @@ impl<D: Disk, S: Sources, K: Sink, A: Agenda> Driver<D, S, K, A> {
     /// Takes commands of lines from this one on as one group, all of them or none, and prints what they gave.
     pub(crate) fn take_whole(&mut self, first: u64, edits: Edits) -> Result<(), RunFault>
         ensures same { SameDisk self.old.host.store.disk self.new.host.store.disk }
-        ensures did { Drives ⟦<Self as Driven>⟧.rules self.old (taking_whole first edits ∷ []) result self.new }
+        ensures did { Drives ⟦<Self as Driven>⟧.rules self.old
+            (taking_whole first edits ∷ []) result self.new }
     {
         match self.take_all(first, edits) {
             Ok(whole) => self.print_whole(first, whole),

@@ -22,30 +22,37 @@ use tellings::Tells;
 
 /// Whatever is driven over a disk that keeps the model is a visit, to its end or to a fault.
 pub fn driven_is_visit<S: Sources, K: Sink, A: Agenda>()
-    ensures { DrivenIsVisit (rules (agenda_rules A.rules A.joins) (source_rules S.after S.wakes S.clock) K.rules) }
+    ensures { DrivenIsVisit (rules (agenda_rules A.rules A.joins)
+        (source_rules S.after S.wakes S.clock) K.rules) }
 {}
 
 /// What was printed was durable then, and stays so whenever a crash comes.
 pub fn printed_is_durable<S: Sources, K: Sink, A: Agenda>()
-    ensures { PrintedIsDurable (rules (agenda_rules A.rules A.joins) (source_rules S.after S.wakes S.clock) K.rules) }
+    ensures { PrintedIsDurable (rules (agenda_rules A.rules A.joins)
+        (source_rules S.after S.wakes S.clock) K.rules) }
 {}
 
 /// The same two of lines that are taken as they come, in the words of the contract of `live`, `run --json` and `run --timeout`.
 pub fn lines_are_visits<S: Sources, T: Tells, W: Stamped>()
-    ensures visit { DrivenIsVisit (rules lines_rules (source_rules S.after S.wakes S.clock) (noting_rules T.voice W.held)) }
-    ensures durable { PrintedIsDurable (rules lines_rules (source_rules S.after S.wakes S.clock) (noting_rules T.voice W.held)) }
+    ensures visit { DrivenIsVisit (rules lines_rules (source_rules S.after S.wakes S.clock)
+        (noting_rules T.voice W.held)) }
+    ensures durable { PrintedIsDurable (rules lines_rules (source_rules S.after S.wakes S.clock)
+        (noting_rules T.voice W.held)) }
 {}
 
 /// Of a script that is run, in the words of the contract of `run`.
 pub fn scripts_are_visits<S: Sources, W: Stamped>()
     ensures visit { DrivenIsVisit (running_rules (source_rules S.after S.wakes S.clock) W.held) }
-    ensures durable { PrintedIsDurable (running_rules (source_rules S.after S.wakes S.clock) W.held) }
+    ensures durable { PrintedIsDurable (running_rules (source_rules S.after S.wakes S.clock)
+        W.held) }
 {}
 
 /// And of the fields of a worksheet that are evaluated, in the words of the contract of `eval`.
 pub fn fields_are_visits<P: Programs, S: Sources, T: Tells, W: Stamped>()
-    ensures visit { DrivenIsVisit (rules (fields_rules P.finds) (source_rules S.after S.wakes S.clock) (noting_rules (by_field_lines T.voice) W.held)) }
-    ensures durable { PrintedIsDurable (rules (fields_rules P.finds) (source_rules S.after S.wakes S.clock) (noting_rules (by_field_lines T.voice) W.held)) }
+    ensures visit { DrivenIsVisit (rules (fields_rules P.finds)
+        (source_rules S.after S.wakes S.clock) (noting_rules (by_field_lines T.voice) W.held)) }
+    ensures durable { PrintedIsDurable (rules (fields_rules P.finds)
+        (source_rules S.after S.wakes S.clock) (noting_rules (by_field_lines T.voice) W.held)) }
 {}
 
 /// What `check --accept` leaves is an acceptance, in the words of its contract, to its end or to a fault.

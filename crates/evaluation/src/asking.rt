@@ -45,7 +45,8 @@ fn is_lost(sheet: &Sheet, id: Option<u32>) -> bool
 
 /// Whether the field that was asked last of this one's session shows no answer.
 fn is_after_lost(sheet: &Sheet, lasts: &[Last], field: Option<&Field>) -> bool
-    ensures { result ≡ meant.is_after_lost sheet.now.contents.fields lasts.now (option_copied field.entry) }
+    ensures { result ≡ meant.is_after_lost sheet.now.contents.fields lasts.now
+        (option_copied field.entry) }
 {
     match field {
         None => false,
@@ -74,7 +75,8 @@ pub fn next_of(plan: &Plan, sheet: &Sheet, lasts: &[Last], ids: &[u32], from: us
     requires { from ≤ length ids.now }
     ensures next { meant.IsNext plan.now sheet.now.contents.fields lasts.now ids.now from result }
     ensures within { result ≤ length ids.now }
-    ensures found { result < length ids.now → meant.is_passed plan.now sheet.now.contents.fields lasts.now ids.now result ≡ false }
+    ensures found { result < length ids.now
+        → meant.is_passed plan.now sheet.now.contents.fields lasts.now ids.now result ≡ false }
 {
     for at in from..ids.len() {
         if !is_passed(plan, sheet, lasts, ids, at) {

@@ -36,7 +36,8 @@ fn is_busy(life: Option<LifeView>) -> bool
 
 /// Whether an item waits in the session of this field.
 pub fn is_session_busy<D: Disk>(host: &BufferedHost<D>, field: Option<&Field>) -> bool
-    ensures { (w : World) → IsHost host.now w → result ≡ beside.is_session_busy w (option_copied field.entry) }
+    ensures { (w : World) → IsHost host.now w
+        → result ≡ beside.is_session_busy w (option_copied field.entry) }
 {
     match field {
         None => false,
@@ -101,7 +102,8 @@ fn joins_next<D: Disk>(
 ) -> bool
     requires few { length ids.now < 2 ^ 32 }
     requires there { stand.now.taken < length ids.now }
-    ensures { (w : World) → IsHost host.now w → result ≡ (beside.joins plan.now w stand.now stand.now.taken id
+    ensures { (w : World) → IsHost host.now w
+        → result ≡ (beside.joins plan.now w stand.now stand.now.taken id
         && inside.is_due plan.now (sheet_in w).fields ids.now stand.now) }
 {
     joins(host, plan, stand, stand.taken, id) && is_due(plan, host.sheet(), ids, stand)
@@ -117,8 +119,10 @@ pub fn joining<D: Disk>(
     requires few { length ids.now < 2 ^ 32 }
     requires taken { stand.now.taken ≤ length ids.now }
     ensures within { IfSome result (λ at. at < length ids.now) }
-    ensures next { (w : World) (id : ℕ) → IsHost host.now w → IfSome result (λ at. slice_get ids.now at ≡ Some id
-        → IsAsked plan.now (sheet_in w).fields ids.now stand.now at id × (beside.joins plan.now w stand.now at id ≡ true)) }
+    ensures next { (w : World) (id : ℕ) → IsHost host.now w
+        → IfSome result (λ at. slice_get ids.now at ≡ Some id
+        → IsAsked plan.now (sheet_in w).fields ids.now stand.now at id
+        × (beside.joins plan.now w stand.now at id ≡ true)) }
     ensures none { (w : World) → IsHost host.now w → result ≡ None
         → beside.NoneJoins plan.now w ids.now stand.now }
 {
@@ -155,7 +159,8 @@ fn next_late<D: Disk>(host: &Host<D>, ids: &[u32], stand: &Stand) -> Option<Late
     requires { stand.now.taken ≤ length ids.now }
     ensures found { (w : World) → IsHost host.now w → IfSome result (λ late.
         beside.IsFirstWaiting w ids.now stand.now late.place late.id) }
-    ensures none { (w : World) → IsHost host.now w → result ≡ None → beside.NoneWaits w ids.now stand.now }
+    ensures none { (w : World) → IsHost host.now w → result ≡ None
+        → beside.NoneWaits w ids.now stand.now }
     ensures taken { IfSome result (λ late. late.place ≤ stand.now.taken) }
 {
     let at = first_waiting(host, ids, stand.first, stand.taken);
@@ -172,7 +177,8 @@ fn next_late<D: Disk>(host: &Host<D>, ids: &[u32], stand: &Stand) -> Option<Late
 /// The field whose time is over first: the one that was asked last where none is known to wait.
 pub fn first_late<D: Disk>(host: &Host<D>, ids: &[u32], stand: &Stand) -> Late
     requires { stand.now.taken ≤ length ids.now }
-    ensures late { (w : World) → IsHost host.now w → beside.IsLate w ids.now stand.now result.place result.id }
+    ensures late { (w : World) → IsHost host.now w
+        → beside.IsLate w ids.now stand.now result.place result.id }
     ensures taken { result.place ≤ stand.now.taken }
 {
     match next_late(host, ids, stand) {
@@ -187,7 +193,8 @@ pub fn first_late<D: Disk>(host: &Host<D>, ids: &[u32], stand: &Stand) -> Late
 /// The next field whose interpreter is interrupted after that of another one whose time was over.
 pub fn further_late<D: Disk>(host: &Host<D>, ids: &[u32], stand: &Stand) -> Option<Late>
     requires { stand.now.taken ≤ length ids.now }
-    ensures found { (w : World) → IsHost host.now w → IfSome result (λ late. (stand.now.warned ≡ true)
+    ensures found { (w : World) → IsHost host.now w
+        → IfSome result (λ late. (stand.now.warned ≡ true)
         × beside.IsFirstWaiting w ids.now stand.now late.place late.id) }
     ensures none { (w : World) → IsHost host.now w → result ≡ None
         → stand.now.warned ≡ true → beside.NoneWaits w ids.now stand.now }

@@ -99,7 +99,8 @@ fn put_session(sessions: &mut Vec<Name>, session: Name) -> Result<(), AllocError
 /// Puts the session of a field after these, where the field lacks an answer.
 fn put_if_lacking(sessions: &mut Vec<Name>, sheet: &Sheet, field: &Field) -> Result<(), AllocError>
     ensures { OnOk result (sessions.new.items ≡ choosing.with_session_if
-        (meant.is_lacking sheet.now.contents.sessions field.now) sessions.old.items field.now.session) }
+        (meant.is_lacking sheet.now.contents.sessions field.now) sessions.old.items
+        field.now.session) }
 {
     if is_lacking(sheet, field) {
         put_session(sessions, field.session)?;

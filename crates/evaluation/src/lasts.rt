@@ -47,7 +47,8 @@ pub fn after_asking(
     all: &[Last],
     field: Option<&Field>,
 ) -> Result<Vec<Last>, AllocError>
-    ensures { IfOk result (λ asked. asked.items ≡ lasts.after_asking all.now (option_copied field.entry)) }
+    ensures { IfOk result (λ asked. asked.items ≡ lasts.after_asking all.now
+        (option_copied field.entry)) }
 {
     match field {
         Some(field) => with_last(

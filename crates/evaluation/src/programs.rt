@@ -36,9 +36,12 @@ fn program_of(session: &Session) -> &[u8]
 
 /// Whether the program of this session is there, if one of these fields is of it.
 fn is_ready<P: Programs>(programs: &P, sheet: &Sheet, ids: &[u32], session: &Session) -> bool
-    ensures ready { result ≡ true → needs.HasItsProgram (P.finds programs.now) sheet.now.contents.fields ids.now session.now }
-    ensures needed { result ≡ false → needs.is_needed sheet.now.contents.fields ids.now session.now.name ≡ true }
-    ensures unfound { result ≡ false → P.finds programs.now (needs.program_of session.now.words) false }
+    ensures ready { result ≡ true → needs.HasItsProgram (P.finds programs.now)
+        sheet.now.contents.fields ids.now session.now }
+    ensures needed { result ≡ false
+        → needs.is_needed sheet.now.contents.fields ids.now session.now.name ≡ true }
+    ensures unfound { result ≡ false
+        → P.finds programs.now (needs.program_of session.now.words) false }
 {
     if is_needed(sheet, ids, session.name) {
         programs.has(program_of(session))
@@ -49,8 +52,10 @@ fn is_ready<P: Programs>(programs: &P, sheet: &Sheet, ids: &[u32], session: &Ses
 
 /// The first session whose program isn't there, of those of which a field has one of these numbers.
 pub fn lacking_in<P: Programs>(programs: &P, sheet: &Sheet, ids: &[u32]) -> Option<Name>
-    ensures found { IfSome result (needs.IsFirstLacking (P.finds programs.now) sheet.now.contents.fields ids.now sheet.now.contents.sessions) }
-    ensures none { result ≡ None → needs.HaveAll (P.finds programs.now) sheet.now.contents.fields ids.now sheet.now.contents.sessions }
+    ensures found { IfSome result (needs.IsFirstLacking (P.finds programs.now)
+        sheet.now.contents.fields ids.now sheet.now.contents.sessions) }
+    ensures none { result ≡ None → needs.HaveAll (P.finds programs.now) sheet.now.contents.fields
+        ids.now sheet.now.contents.sessions }
 {
     for session in sheet.sessions() {
         if !is_ready(programs, sheet, ids, session) {

@@ -37,8 +37,10 @@ fn placed_at(all: &[Placed], at: usize) -> Placed
 
 /// The round of the next field of this session, where these are placed: one more than that of its last one.
 fn next_round(sheet: &Sheet, all: &[Placed], session: Name) -> usize
-    requires { all.now ≡ rounds.with_rounds sheet.now.contents.fields [] (rounds.placed_ids all.now) }
-    ensures { result ≡ rounds.count_of sheet.now.contents.fields session (rounds.placed_ids all.now) }
+    requires { all.now ≡ rounds.with_rounds sheet.now.contents.fields []
+        (rounds.placed_ids all.now) }
+    ensures { result ≡ rounds.count_of sheet.now.contents.fields session
+        (rounds.placed_ids all.now) }
 {
     for at in (0..all.len()).rev() {
         let last = placed_at(all, at);
@@ -51,8 +53,10 @@ fn next_round(sheet: &Sheet, all: &[Placed], session: Name) -> usize
 
 /// The round of a field, where these are placed.
 fn round_of(sheet: &Sheet, all: &[Placed], field: Option<&Field>) -> usize
-    requires { all.now ≡ rounds.with_rounds sheet.now.contents.fields [] (rounds.placed_ids all.now) }
-    ensures { result ≡ rounds.of_its_session sheet.now.contents.fields (rounds.placed_ids all.now) (option_copied field.entry) }
+    requires { all.now ≡ rounds.with_rounds sheet.now.contents.fields []
+        (rounds.placed_ids all.now) }
+    ensures { result ≡ rounds.of_its_session sheet.now.contents.fields (rounds.placed_ids all.now)
+        (option_copied field.entry) }
 {
     match field {
         None => 0,
@@ -62,9 +66,11 @@ fn round_of(sheet: &Sheet, all: &[Placed], field: Option<&Field>) -> usize
 
 /// The field with this number, with its round, where these are placed.
 fn placed_after(sheet: &Sheet, all: &[Placed], id: u32) -> Placed
-    requires { all.now ≡ rounds.with_rounds sheet.now.contents.fields [] (rounds.placed_ids all.now) }
+    requires { all.now ≡ rounds.with_rounds sheet.now.contents.fields []
+        (rounds.placed_ids all.now) }
     ensures there { result.id ≡ id }
-    ensures round { result.round ≡ rounds.round_of sheet.now.contents.fields (rounds.placed_ids all.now) id }
+    ensures round { result.round ≡ rounds.round_of sheet.now.contents.fields
+        (rounds.placed_ids all.now) id }
 {
     Placed {
         round: round_of(sheet, all, sheet.field(id)),
@@ -74,7 +80,8 @@ fn placed_after(sheet: &Sheet, all: &[Placed], id: u32) -> Placed
 
 /// These fields, each with its round.
 fn with_rounds(alloc: Global, sheet: &Sheet, ids: &[u32]) -> Result<Vec<Placed>, AllocError>
-    ensures { IfOk result (λ all. all.items ≡ rounds.with_rounds sheet.now.contents.fields [] ids.now) }
+    ensures { IfOk result (λ all. all.items ≡ rounds.with_rounds sheet.now.contents.fields []
+        ids.now) }
 {
     let mut all = Vec::new(alloc);
     for id in ids {
@@ -97,7 +104,8 @@ fn placed_ids(alloc: Global, all: &[Placed]) -> Result<Vec<u32>, AllocError>
 
 /// These fields round by round.
 fn by_rounds(alloc: Global, sheet: &Sheet, ids: &[u32]) -> Result<Vec<u32>, AllocError>
-    ensures { IfOk result (λ order. order.items ≡ rounds.by_rounds sheet.now.contents.fields ids.now) }
+    ensures { IfOk result (λ order. order.items ≡ rounds.by_rounds sheet.now.contents.fields
+        ids.now) }
 {
     let mut all = with_rounds(alloc, sheet, ids)?;
     // Fields of one round keep their order.
@@ -112,7 +120,8 @@ fn in_order(
     sheet: &Sheet,
     ids: Vec<u32>,
 ) -> Result<Vec<u32>, AllocError>
-    ensures { IfOk result (λ order. order.items ≡ rounds.order_of plan.now sheet.now.contents.fields ids.items) }
+    ensures { IfOk result (λ order. order.items ≡ rounds.order_of plan.now sheet.now.contents.fields
+        ids.items) }
 {
     if plan.jobs <= 1 {
         Ok(ids)

@@ -29,7 +29,8 @@ use worksheet::{Field, Sheet};
 
 /// Whether one of the fields with these numbers is of the session of this one.
 fn shares_session(sheet: &Sheet, group: &[u32], field: Option<&Field>) -> bool
-    ensures { result ≡ together.shares_session sheet.now.contents.fields group.now (option_copied field.entry) }
+    ensures { result ≡ together.shares_session sheet.now.contents.fields group.now
+        (option_copied field.entry) }
 {
     match field {
         None => false,
@@ -39,7 +40,8 @@ fn shares_session(sheet: &Sheet, group: &[u32], field: Option<&Field>) -> bool
 
 /// Whether no item waits in the session of this field, and none of these fields is of it.
 fn is_apart<D: Disk>(host: &BufferedHost<D>, group: &[u32], field: Option<&Field>) -> bool
-    ensures { (w : World) → IsHost host.now w → result ≡ together.is_apart w group.now (option_copied field.entry) }
+    ensures { (w : World) → IsHost host.now w
+        → result ≡ together.is_apart w group.now (option_copied field.entry) }
 {
     !is_session_busy(host, field) && !shares_session(host.sheet(), group, field)
 }
@@ -71,7 +73,8 @@ fn may_go_with<D: Disk>(
     id: u32,
 ) -> bool
     ensures { (w : World) → IsHost host.now w
-        → result ≡ together.may_go_with grouping.now.plan.now w grouping.now.lasts.now group.now id }
+        → result ≡ together.may_go_with grouping.now.plan.now w grouping.now.lasts.now group.now
+        id }
 {
     is_apart(host, group, host.sheet().field(id))
         && !is_passed_over(grouping.plan, host.sheet(), grouping.lasts, id)
@@ -104,7 +107,8 @@ pub(crate) fn group_from<D: Disk>(
 ) -> Result<Vec<u32>, AllocError>
     requires { from < length ids.now }
     ensures group { (w : World) (id : ℕ) → IsHost host.now w → slice_get ids.now from ≡ Some id
-        → IfOk result (λ group. group.items ≡ together.group_at grouping.now.plan.now w grouping.now.lasts.now ids.now from id) }
+        → IfOk result (λ group. group.items
+        ≡ together.group_at grouping.now.plan.now w grouping.now.lasts.now ids.now from id) }
     ensures few { IfOk result (λ group. length group.items ≤ most_together) }
 {
     let mut group = Vec::new(alloc);
@@ -144,7 +148,8 @@ pub(crate) fn lasts_after(
     sheet: &Sheet,
     group: &[u32],
 ) -> Result<Vec<Last>, AllocError>
-    ensures { IfOk result (λ asked. asked.items ≡ standing.lasts_after lasts.now sheet.now.contents.fields group.now) }
+    ensures { IfOk result (λ asked. asked.items ≡ standing.lasts_after lasts.now
+        sheet.now.contents.fields group.now) }
 {
     let mut asked = lasts.to_vec(alloc)?;
     for id in group {
@@ -175,7 +180,8 @@ fn first_at(held: Hold, first: usize, at: usize) -> usize
 pub(crate) fn asked_together(stand: &Stand, at: usize, group: &[u32], lasts: Vec<Last>) -> Stand
     requires few { at + length group.now < 2 ^ 64 }
     requires counted { stand.now.asked + length group.now < 2 ^ 64 }
-    ensures { (fields : List Field) → lasts.items ≡ standing.lasts_after stand.now.lasts fields group.now
+    ensures { (fields : List Field)
+        → lasts.items ≡ standing.lasts_after stand.now.lasts fields group.now
         → result ≡ standing.asked_together stand.now at fields group.now }
 {
     Stand {

@@ -11,8 +11,10 @@ const MOST_FIELDS: usize = (1 << 31) - 1;
 
 /// Whether the fields of another group can't be counted, or another whose time is over.
 pub(crate) fn is_full(stand: &Stand) -> bool
-    ensures yes { result ≡ true → (2 ^ 64 ≤ stand.now.asked + most_together + 1) ⊎ (2 ^ 64 ≤ stand.now.overs + 1) }
-    ensures no { result ≡ false → (stand.now.asked + most_together + 1 < 2 ^ 64) × (stand.now.overs + 1 < 2 ^ 64) }
+    ensures yes { result ≡ true → (2 ^ 64 ≤ stand.now.asked + most_together + 1)
+        ⊎ (2 ^ 64 ≤ stand.now.overs + 1) }
+    ensures no { result ≡ false → (stand.now.asked + most_together + 1 < 2 ^ 64)
+        × (stand.now.overs + 1 < 2 ^ 64) }
 {
     stand.asked > MOST_COUNTED || stand.overs == u64::MAX
 }

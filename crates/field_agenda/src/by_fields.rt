@@ -5,7 +5,6 @@ ghost use Rattle.session_engine.specs.Host.{IsHost};
 ghost use Rattle.session_engine.specs.Gathers.{NoCheckpoints};
 ghost use Rattle.worksheet.specs.Checks.{field_in};
 ghost use Rattle.evaluation.specs.Beside.{NoneJoins};
-ghost use Rattle.evaluation.specs.Evaluation.{not_begun};
 ghost use Rattle.evaluation.specs.Meant.{EndsHere};
 ghost use Rattle.driver.specs.Steps.{most_together};
 ghost use Rattle.line_agenda.specs.Matters.{others};
@@ -20,7 +19,7 @@ use crate::asking::{Grouping, asked_together, evals, group_from, lasts_after, ne
 use crate::bounds::{has_few_fields, is_beyond, is_full};
 use crate::heeding::{at_once_after, noted_of, wait_after, waited};
 use crate::looking::{Found, look_for};
-use crate::stage::{FieldDoing, Stage};
+use crate::stage::{FieldDoing, Stage, nothing_asked};
 use crate::times::{late_now, life_due};
 use arrivals::{Input, Woken};
 use block_tree::Sequence;
@@ -70,23 +69,6 @@ fn interrupt_for(id: u32, field: Option<&Field>) -> Turn
     }
 }
 
-/// The place before anything was asked.
-fn nothing_asked(alloc: Global) -> Stand
-    ensures { result ≡ not_begun }
-{
-    Stand {
-        taken: 0,
-        first: 0,
-        field: 0,
-        held: Hold::Free,
-        warned: false,
-        at_once: false,
-        asked: 0,
-        overs: 0,
-        lasts: Sequence::new(alloc),
-    }
-}
-
 /// The commands that ask fields, and where it stands then.
 pub(crate) struct Asking {
     pub(crate) events: Vec<Event>,
@@ -123,7 +105,8 @@ impl<P: Programs> ByFields<P> {
 
     /// Looks whether all is there that it needs.
     fn look<D: Disk>(&mut self, alloc: Global, host: &Host<D>) -> Result<Turn, RunFault>
-        ensures { (w : World) → IsHost host.now w → LooksFor (P.finds self.old.programs) self.old w result self.new }
+        ensures { (w : World) → IsHost host.now w
+            → LooksFor (P.finds self.old.programs) self.old w result self.new }
     {
         match look_for(alloc, &self.plan, &self.programs, host.sheet()) {
             Ok(Found { ids, stage }) => {
@@ -145,9 +128,12 @@ impl<P: Programs> ByFields<P> {
         requires there { at < length self.now.ids }
         requires few { length self.now.ids < 2 ^ 31 }
         requires counted { self.now.stand.asked + most_together + 1 < 2 ^ 64 }
-        ensures asks { (w : World) (id : ℕ) → IsHost host.now w → slice_get self.now.ids at ≡ Some id
-            → IfOk result (λ asking. (asking.events.items ≡ map asks_field (asked_with self.now w at id))
-            × (asking.stand ≡ standing.asked_together self.now.stand at (sheet_in w).fields (asked_with self.now w at id))) }
+        ensures asks { (w : World) (id : ℕ) → IsHost host.now w
+            → slice_get self.now.ids at ≡ Some id
+            → IfOk result (λ asking. (asking.events.items ≡ map asks_field
+            (asked_with self.now w at id))
+            × (asking.stand ≡ standing.asked_together self.now.stand at (sheet_in w).fields
+            (asked_with self.now w at id))) }
         ensures commands { IfOk result (λ asking. NoCheckpoints asking.events.items) }
     {
         let lasts = self.stand.lasts.as_slice();
@@ -185,7 +171,8 @@ impl<P: Programs> ByFields<P> {
     fn end<D: Disk>(&mut self, host: &Host<D>) -> Result<Turn, RunFault>
         requires taken { self.old.stand.taken ≤ length self.old.ids }
         requires few { length self.old.ids < 2 ^ 31 }
-        ensures { (w : World) (stopped : Option ℕ) → IsHost host.now w → EndsHere self.old.plan (sheet_in w).fields self.old.ids self.old.stand stopped
+        ensures { (w : World) (stopped : Option ℕ) → IsHost host.now w
+            → EndsHere self.old.plan (sheet_in w).fields self.old.ids self.old.stand stopped
             → ComesToItsEnd self.old w stopped result self.new }
     {
         let sheet = host.sheet();
@@ -230,8 +217,10 @@ impl<P: Programs> ByFields<P> {
     /// The time of this field is over: its interpreter is interrupted.
     fn warn<D: Disk>(&mut self, host: &Host<D>, late: Late) -> Turn
         requires counted { self.old.stand.overs + 1 < 2 ^ 64 }
-        ensures turn { (w : World) → IsHost host.now w → result ≡ says.interrupts_of late.id (field_in (sheet_in w).fields late.id) }
-        ensures stands { self.new ≡ does_at self.old (does.Over late.id) (warned_from self.old.stand late.place) }
+        ensures turn { (w : World) → IsHost host.now w
+            → result ≡ says.interrupts_of late.id (field_in (sheet_in w).fields late.id) }
+        ensures stands { self.new ≡ does_at self.old (does.Over late.id)
+            (warned_from self.old.stand late.place) }
     {
         self.stand.first = late.place;
         self.stand.warned = true;
@@ -242,8 +231,11 @@ impl<P: Programs> ByFields<P> {
 
     /// Watches the sources, or takes it that lives have stalled where the two seconds after an interrupt are over.
     fn watch(&mut self, now: u64) -> Turn
-        ensures { ((IsOver self.old.stand.held now) × (result ≡ Turn.Stall) × (self.new ≡ does_now self.old does.Stall))
-            ⊎ ((IsOver self.old.stand.held now → ⊥) × (result ≡ Turn.Watch Input.HeldBack (patience_at self.old.stand.held now)) × (self.new ≡ self.old)) }
+        ensures { ((IsOver self.old.stand.held now) × (result ≡ Turn.Stall)
+            × (self.new ≡ does_now self.old does.Stall))
+            ⊎ ((IsOver self.old.stand.held now → ⊥)
+            × (result ≡ Turn.Watch Input.HeldBack (patience_at self.old.stand.held now))
+            × (self.new ≡ self.old)) }
     {
         if is_over(self.stand.held, now) {
             self.doing = FieldDoing::Stall;
@@ -257,7 +249,8 @@ impl<P: Programs> ByFields<P> {
         requires taken { self.old.stand.taken ≤ length self.old.ids }
         requires counted { self.old.stand.overs + 1 < 2 ^ 64 }
         requires held { self.old.stand.held ≢ Hold.Free }
-        ensures { (w : World) → IsHost host.now w → NoneJoins self.old.plan w self.old.ids self.old.stand
+        ensures { (w : World) → IsHost host.now w
+            → NoneJoins self.old.plan w self.old.ids self.old.stand
             → GoesUnheard self.old w now (Ok result) self.new }
     {
         match late_now(host, self.ids.as_slice(), &self.stand, now) {
@@ -275,7 +268,8 @@ impl<P: Programs> ByFields<P> {
     ) -> Result<Turn, RunFault>
         requires taken { self.old.stand.taken ≤ length self.old.ids }
         requires few { length self.old.ids < 2 ^ 31 }
-        requires counted { (self.old.stand.asked + most_together + 1 < 2 ^ 64) × (self.old.stand.overs + 1 < 2 ^ 64) }
+        requires counted { (self.old.stand.asked + most_together + 1 < 2 ^ 64)
+            × (self.old.stand.overs + 1 < 2 ^ 64) }
         requires held { self.old.stand.held ≢ Hold.Free }
         ensures { (w : World) → IsHost host.now w → GoesUnheard self.old w now result self.new }
     {
@@ -294,7 +288,8 @@ impl<P: Programs> ByFields<P> {
     ) -> Result<Turn, RunFault>
         requires taken { self.old.stand.taken ≤ length self.old.ids }
         requires few { length self.old.ids < 2 ^ 31 }
-        requires counted { (self.old.stand.asked + most_together + 1 < 2 ^ 64) × (self.old.stand.overs + 1 < 2 ^ 64) }
+        requires counted { (self.old.stand.asked + most_together + 1 < 2 ^ 64)
+            × (self.old.stand.overs + 1 < 2 ^ 64) }
         ensures { (w : World) → IsHost host.now w → GoesUnheard self.old w now result self.new }
     {
         if is_free(self.stand.held) {
@@ -322,7 +317,8 @@ impl<P: Programs> ByFields<P> {
     ) -> Result<Turn, RunFault>
         requires taken { self.old.stand.taken ≤ length self.old.ids }
         requires few { length self.old.ids < 2 ^ 31 }
-        requires counted { (self.old.stand.asked + most_together + 1 < 2 ^ 64) × (self.old.stand.overs + 1 < 2 ^ 64) }
+        requires counted { (self.old.stand.asked + most_together + 1 < 2 ^ 64)
+            × (self.old.stand.overs + 1 < 2 ^ 64) }
         ensures { (w : World) → IsHost host.now w → FieldsGoOn self.old w now result self.new }
     {
         match self.take_due() {

@@ -84,7 +84,9 @@ impl<P: Programs> ByFields<P> {
         requires taken { self.now.stand.taken ≤ length self.now.ids }
         requires few { length self.now.ids < 2 ^ 31 }
         ensures within { IfSome result (λ at. at < length self.now.ids) }
-        ensures may { (w : World) (id : ℕ) → IsHost host.now w → IfSome result (λ at. slice_get self.now.ids at ≡ Some id → MayBeAsked self.now w at id) }
+        ensures may { (w : World) (id : ℕ) → IsHost host.now w
+            → IfSome result (λ at. slice_get self.now.ids at ≡ Some id
+            → MayBeAsked self.now w at id) }
     {
         let ids = self.ids.as_slice();
         if is_free(self.stand.held) {
@@ -104,8 +106,10 @@ impl<P: Programs> ByFields<P> {
         requires there { at < length self.old.ids }
         requires few { length self.old.ids < 2 ^ 31 }
         requires counted { self.old.stand.asked + most_together + 1 < 2 ^ 64 }
-        ensures joins { (w : World) (id : ℕ) → IsHost host.now w → slice_get self.old.ids at ≡ Some id → MayBeAsked self.old w at id
-            → IfSome result (λ joined. JoinsFrom self.old w at id (joined.first, joined.events.items) self.new) }
+        ensures joins { (w : World) (id : ℕ) → IsHost host.now w
+            → slice_get self.old.ids at ≡ Some id → MayBeAsked self.old w at id
+            → IfSome result (λ joined. JoinsFrom self.old w at id
+            (joined.first, joined.events.items) self.new) }
         ensures none { IfNone result (self.new ≡ self.old) }
         ensures few { IfSome result (λ joined. length joined.events.items ≤ most_joined) }
         ensures commands { IfSome result (λ joined. NoCheckpoints joined.events.items) }
@@ -128,7 +132,8 @@ impl<P: Programs> ByFields<P> {
 
     /// Asks the next fields, where this wait goes on.
     fn join_next<D: Disk>(&mut self, alloc: Global, host: &BufferedHost<D>) -> Option<Joined>
-        ensures joins { (w : World) → IsHost host.now w → IfSome result (λ joined. (k : ℕ) × (id : ℕ)
+        ensures joins { (w : World) → IsHost host.now w
+            → IfSome result (λ joined. (k : ℕ) × (id : ℕ)
             × JoinsFrom self.old w k id (joined.first, joined.events.items) self.new) }
         ensures none { IfNone result (self.new ≡ self.old) }
         ensures few { IfSome result (λ joined. length joined.events.items ≤ most_joined) }

@@ -37,7 +37,8 @@ pub(crate) fn look_for<P: Programs>(
     programs: &P,
     sheet: &Sheet,
 ) -> Result<Found, AllocError>
-    ensures { IfOk result (λ found. LookFinds (P.finds programs.now) plan.now sheet.now.contents found.ids.items found.stage) }
+    ensures { IfOk result (λ found. LookFinds (P.finds programs.now) plan.now sheet.now.contents
+        found.ids.items found.stage) }
 {
     if let Some(id) = missing_in(&plan.which, sheet) {
         return Ok(Found {

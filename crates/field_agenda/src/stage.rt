@@ -1,6 +1,12 @@
 //! How far an evaluation is, and what is being done for it.
+ghost use Rattle.std.specs.Prelude.{◌≡◌};
+ghost use Rattle.evaluation.specs.Evaluation.{not_begun};
 
+use block_tree::Sequence;
 use evaluation::EvalEnd;
+use evaluation::plan::Stand;
+use live::Hold;
+use std::alloc::Global;
 use worksheet::Name;
 
 /// How far an evaluation is.
@@ -31,4 +37,21 @@ pub enum FieldDoing {
     Over(u32),
     /// The end of the two seconds after an interrupt.
     Stall,
+}
+
+/// The place before anything was asked.
+pub(crate) fn nothing_asked(alloc: Global) -> Stand
+    ensures { result ≡ not_begun }
+{
+    Stand {
+        taken: 0,
+        first: 0,
+        field: 0,
+        held: Hold::Free,
+        warned: false,
+        at_once: false,
+        asked: 0,
+        overs: 0,
+        lasts: Sequence::new(alloc),
+    }
 }

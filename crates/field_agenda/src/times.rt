@@ -44,8 +44,10 @@ pub(crate) fn late_now<D: Disk>(
     now: u64,
 ) -> Option<Late>
     requires { stand.now.taken ≤ length ids.now }
-    ensures some { (w : World) → IsHost host.now w → IfSome result (λ late. IsLateNow ids.now stand.now w now late.place late.id) }
-    ensures none { (w : World) → IsHost host.now w → result ≡ None → NoneLate ids.now stand.now w now }
+    ensures some { (w : World) → IsHost host.now w
+        → IfSome result (λ late. IsLateNow ids.now stand.now w now late.place late.id) }
+    ensures none { (w : World) → IsHost host.now w → result ≡ None
+        → NoneLate ids.now stand.now w now }
 {
     if stand.warned {
         return further_late(host, ids, stand);

@@ -25,7 +25,8 @@ struct Compared<Y: System> {
 
 /// `check` of the worksheet at a path, of one field after another.
 fn check_as<Y: System>(mut outside: Outside<Y>, beside: &Beside<'_>, path: &str) -> Compared<Y>
-    ensures does { ChecksAs ⟦<Y as Seen>⟧.outer outside result.outside result.end path.now (check_plan beside.now.manner.request.now beside.now.jobs) }
+    ensures does { ChecksAs ⟦<Y as Seen>⟧.outer outside result.outside result.end path.now
+        (check_plan beside.now.manner.request.now beside.now.jobs) }
     ensures leaves { result.outside.input ≡ outside.input }
 {
     let files = outside.places.open_to_read(path);
@@ -47,7 +48,8 @@ fn check_together_as<Y: System>(
     beside: &Beside<'_>,
     path: &str,
 ) -> Compared<Y>
-    ensures does { TogetherAs ⟦<Y as Seen>⟧.outer outside result.outside result.end path.now (check_plan beside.now.manner.request.now beside.now.jobs) }
+    ensures does { TogetherAs ⟦<Y as Seen>⟧.outer outside result.outside result.end path.now
+        (check_plan beside.now.manner.request.now beside.now.jobs) }
     ensures leaves { result.outside.input ≡ outside.input }
 {
     let files = outside.places.open_to_read(path);
@@ -66,7 +68,8 @@ fn check_together_as<Y: System>(
 /// Checks a worksheet, once the places of closed streams are held: its sessions side by side where that is asked
 /// for, and else one field after another.
 fn compare<Y: System>(outside: Outside<Y>, beside: &Beside<'_>, path: &str) -> Compared<Y>
-    ensures does { Compares ⟦<Y as Seen>⟧.outer outside result.outside result.end path.now (check_plan beside.now.manner.request.now beside.now.jobs) }
+    ensures does { Compares ⟦<Y as Seen>⟧.outer outside result.outside result.end path.now
+        (check_plan beside.now.manner.request.now beside.now.jobs) }
     ensures leaves { result.outside.input ≡ outside.input }
 {
     if beside.jobs <= 1 {
@@ -78,7 +81,8 @@ fn compare<Y: System>(outside: Outside<Y>, beside: &Beside<'_>, path: &str) -> C
 
 /// `check` of the worksheet at a path whose answers are accepted, once the places of closed streams are held.
 fn accept_as<Y: System>(mut outside: Outside<Y>, manner: &Manner<'_>, path: &str) -> Performed<Y>
-    ensures does { AcceptsHeld ⟦<Y as Seen>⟧.outer outside result.outside result.ending path.now manner.now.request.now }
+    ensures does { AcceptsHeld ⟦<Y as Seen>⟧.outer outside result.outside result.ending path.now
+        manner.now.request.now }
     ensures leaves { result.outside.input ≡ outside.input }
 {
     let files = outside.places.open(path);
@@ -93,7 +97,8 @@ fn accept_as<Y: System>(mut outside: Outside<Y>, manner: &Manner<'_>, path: &str
 
 /// `check` of the worksheet at one path, with answers that are accepted or without.
 fn check_by<Y: System>(mut outside: Outside<Y>, beside: &Beside<'_>, path: &str) -> Performed<Y>
-    ensures does { ChecksBy ⟦<Y as Seen>⟧.outer outside result.outside result.ending path.now (check_plan beside.now.manner.request.now beside.now.jobs) }
+    ensures does { ChecksBy ⟦<Y as Seen>⟧.outer outside result.outside result.ending path.now
+        (check_plan beside.now.manner.request.now beside.now.jobs) }
     ensures leaves { result.outside.input ≡ outside.input }
 {
     if let Err(why) = outside.places.hold() {
@@ -111,7 +116,8 @@ fn check_by<Y: System>(mut outside: Outside<Y>, beside: &Beside<'_>, path: &str)
 
 /// One worksheet of several: a line with its path, and its check.
 fn compare_next<Y: System>(mut outside: Outside<Y>, beside: &Beside<'_>, path: &str) -> Compared<Y>
-    ensures does { ComparesNext ⟦<Y as Seen>⟧.outer outside result.outside result.end path.now (check_plan beside.now.manner.request.now beside.now.jobs) }
+    ensures does { ComparesNext ⟦<Y as Seen>⟧.outer outside result.outside result.end path.now
+        (check_plan beside.now.manner.request.now beside.now.jobs) }
     ensures leaves { result.outside.input ≡ outside.input }
 {
     match tell_worksheet(path, &mut outside.output) {
@@ -130,7 +136,9 @@ fn compare_each<Y: System>(
     beside: &Beside<'_>,
     paths: &[&str],
 ) -> Performed<Y>
-    ensures does { ComparesEach ⟦<Y as Seen>⟧.outer (check_plan beside.now.manner.request.now beside.now.jobs) [] (map (λ path. path.now) paths.now) outside result.outside result.ending }
+    ensures does { ComparesEach ⟦<Y as Seen>⟧.outer (check_plan beside.now.manner.request.now
+        beside.now.jobs) [] (map (λ path. path.now) paths.now) outside result.outside
+        result.ending }
     ensures leaves { result.outside.input ≡ outside.input }
 {
     let mut total = Total::none();
@@ -158,7 +166,8 @@ fn check_paths<Y: System>(
     path: &str,
     words: &CheckWords<'_>,
 ) -> Performed<Y>
-    ensures does { ChecksPaths ⟦<Y as Seen>⟧.outer outside result.outside result.ending path.now (check_view words.now) (check_plan beside.now.manner.request.now beside.now.jobs) }
+    ensures does { ChecksPaths ⟦<Y as Seen>⟧.outer outside result.outside result.ending path.now
+        (check_view words.now) (check_plan beside.now.manner.request.now beside.now.jobs) }
     ensures leaves { result.outside.input ≡ outside.input }
 {
     if !are_several(words.paths.as_slice()) {
@@ -181,7 +190,8 @@ pub(crate) fn check_at<Y: System>(
     path: &str,
     words: CheckWords<'_>,
 ) -> Performed<Y>
-    ensures does { DoesCheck ⟦<Y as Seen>⟧.outer outside result.outside result.ending path.now (check_view words.entry) }
+    ensures does { DoesCheck ⟦<Y as Seen>⟧.outer outside result.outside result.ending path.now
+        (check_view words.entry) }
     ensures leaves { result.outside.input ≡ outside.input }
 {
     let Some(limit) = read_limit(words.timeout) else {

@@ -71,8 +71,17 @@ pub(crate) fn give<Y: System>(
     outside: Outside<Y>,
     files: Result<Y::Disk, FilesFault>,
 ) -> (Given<Y::Disk, Y::Sources, Y::Output>, Kept<Y>)
-    ensures given { result.0 ≡ record { files = files; sources = outside.sources; output = outside.output } }
-    ensures kept { result.1 ≡ record { places = outside.places; input = outside.input; errors = outside.errors; progress = outside.progress } }
+    ensures given { result.0 ≡ record {
+      files = files;
+      sources = outside.sources;
+      output = outside.output;
+    } }
+    ensures kept { result.1 ≡ record {
+      places = outside.places;
+      input = outside.input;
+      errors = outside.errors;
+      progress = outside.progress;
+    } }
 {
     let Outside {
         places,
@@ -99,7 +108,14 @@ pub(crate) fn give<Y: System>(
 impl<Y: System> Kept<Y> {
     /// All that is outside, once the program has given the sources and the output back.
     pub(crate) fn with(self, sources: Y::Sources, output: Y::Output) -> Outside<Y>
-        ensures { result ≡ record { places = self.places; sources = sources; input = self.input; output = output; errors = self.errors; progress = self.progress } }
+        ensures { result ≡ record {
+          places = self.places;
+          sources = sources;
+          input = self.input;
+          output = output;
+          errors = self.errors;
+          progress = self.progress;
+        } }
     {
         let Kept {
             places,

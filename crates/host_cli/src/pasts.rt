@@ -64,7 +64,8 @@ pub(crate) fn show_past_at<Y: System>(
     path: &str,
     changes: &str,
 ) -> Ending
-    ensures does { DoesShowAt ⟦<Y as Seen>⟧.outer outside.old outside.new result path.now changes.now }
+    ensures does { DoesShowAt ⟦<Y as Seen>⟧.outer outside.old outside.new result path.now
+        changes.now }
     ensures leaves { LeavesAlone outside.old outside.new (asked.show_at path.now changes.now) }
 {
     match read_number(changes.as_bytes()) {
@@ -99,7 +100,8 @@ fn export_found<D: Close, W: Write, E: Says>(
     errors: &mut E,
 ) -> Ending
     ensures { PastExported D.closed found form.now.format (exports.last_part form.now.path.now)
-        (streams (writing W.contents output.old output.new) (saying E.contents E.tried errors.old errors.new)) result }
+        (streams (writing W.contents output.old output.new) (saying E.contents E.tried errors.old
+        errors.new)) result }
 {
     let form = titled(form.format, form.path);
     run_export_past(alloc, found, &form, output, errors)
@@ -113,7 +115,8 @@ fn export_after<Y: System>(
     path: &str,
     changes: u32,
 ) -> Ending
-    ensures does { ExportsAfter ⟦<Y as Seen>⟧.outer outside.old outside.new result path.now format changes }
+    ensures does { ExportsAfter ⟦<Y as Seen>⟧.outer outside.old outside.new result path.now format
+        changes }
     ensures leaves { LeavesAlone outside.old outside.new (asked.export_at [] path.now []) }
 {
     if let Err(why) = outside.places.hold() {
@@ -139,7 +142,8 @@ pub(crate) fn export_as_past<Y: System>(
     path: &str,
     changes: &str,
 ) -> Ending
-    ensures does { ExportsPast ⟦<Y as Seen>⟧.outer outside.old outside.new result path.now changes.now format }
+    ensures does { ExportsPast ⟦<Y as Seen>⟧.outer outside.old outside.new result path.now
+        changes.now format }
     ensures leaves { LeavesAlone outside.old outside.new (asked.export_at [] path.now changes.now) }
 {
     match read_number(changes.as_bytes()) {
@@ -156,8 +160,10 @@ pub(crate) fn export_past_at<Y: System>(
     path: &str,
     changes: &str,
 ) -> Ending
-    ensures does { DoesExportAt ⟦<Y as Seen>⟧.outer outside.old outside.new result name.now path.now changes.now }
-    ensures leaves { LeavesAlone outside.old outside.new (asked.export_at name.now path.now changes.now) }
+    ensures does { DoesExportAt ⟦<Y as Seen>⟧.outer outside.old outside.new result name.now path.now
+        changes.now }
+    ensures leaves { LeavesAlone outside.old outside.new (asked.export_at name.now path.now
+        changes.now) }
 {
     match format_named(name) {
         Some(format) => export_as_past(alloc, outside, format, path, changes),
@@ -173,7 +179,8 @@ fn restore_after<Y: System>(
     changes: u32,
     new: &str,
 ) -> Ending
-    ensures does { RestoresAfter ⟦<Y as Seen>⟧.outer outside.old outside.new result path.now new.now changes }
+    ensures does { RestoresAfter ⟦<Y as Seen>⟧.outer outside.old outside.new result path.now new.now
+        changes }
     ensures leaves { LeavesAlone outside.old outside.new (asked.restore path.now [] new.now) }
 {
     if let Err(why) = outside.places.hold() {
@@ -199,8 +206,10 @@ pub(crate) fn restore_at<Y: System>(
     changes: &str,
     new: &str,
 ) -> Ending
-    ensures does { DoesRestore ⟦<Y as Seen>⟧.outer outside.old outside.new result path.now changes.now new.now }
-    ensures leaves { LeavesAlone outside.old outside.new (asked.restore path.now changes.now new.now) }
+    ensures does { DoesRestore ⟦<Y as Seen>⟧.outer outside.old outside.new result path.now
+        changes.now new.now }
+    ensures leaves { LeavesAlone outside.old outside.new (asked.restore path.now changes.now
+        new.now) }
 {
     match read_number(changes.as_bytes()) {
         Some(changes) => restore_after(alloc, outside, path, changes, new),

@@ -62,11 +62,14 @@ impl Message for Text<'_> {
 pub fn refuse_words<W: Says, E: Says>(error: &clap::Error, output: &mut W, errors: &mut E) -> Ending
     ensures memory { kind_of error.now ≡ kind.OutOfMemory
         → (output.new ≡ output.old) × (result.status ≡ 1)
-        × TellsFault (saying E.contents E.tried errors.old errors.new) result.reported (Err fault.OutOfMemory) }
+        × TellsFault (saying E.contents E.tried errors.old errors.new) result.reported
+        (Err fault.OutOfMemory) }
     ensures shown { ShowsText (kind_of error.now)
-        → ShowsHelp (saying W.contents W.tried output.old output.new) (saying E.contents E.tried errors.old errors.new) result }
+        → ShowsHelp (saying W.contents W.tried output.old output.new)
+        (saying E.contents E.tried errors.old errors.new) result }
     ensures refused { kind_of error.now ≢ kind.OutOfMemory → (ShowsText (kind_of error.now) → ⊥)
-        → (output.new ≡ output.old) × RefusesWords (saying E.contents E.tried errors.old errors.new) result }
+        → (output.new ≡ output.old) × RefusesWords (saying E.contents E.tried errors.old errors.new)
+        result }
 {
     match error.kind() {
         ErrorKind::OutOfMemory => end_program(Err(RunFault::OutOfMemory), errors),
@@ -89,7 +92,8 @@ pub fn refuse_words<W: Says, E: Says>(error: &clap::Error, output: &mut W, error
 pub fn refuse_unread_words<E: Says>(kind: io::ErrorKind, errors: &mut E) -> Ending
     ensures memory { kind ≡ io_kind.OutOfMemory
         → (result.status ≡ 1)
-        × TellsFault (saying E.contents E.tried errors.old errors.new) result.reported (Err fault.OutOfMemory) }
+        × TellsFault (saying E.contents E.tried errors.old errors.new) result.reported
+        (Err fault.OutOfMemory) }
     ensures refused { kind ≢ io_kind.OutOfMemory
         → (errors.new ≡ errors.old) × (result.status ≡ 2) }
 {
@@ -169,7 +173,8 @@ pub(crate) fn refuse_plan<E: Says>(why: PlanFault, errors: &mut E) -> Ending
 
 /// Refuses words of `run` that name no time.
 pub(crate) fn refuse_run_limit<E: Says>(errors: &mut E) -> Ending
-    ensures { RefusesWith no_run_seconds_text (saying E.contents E.tried errors.old errors.new) result }
+    ensures { RefusesWith no_run_seconds_text (saying E.contents E.tried errors.old errors.new)
+        result }
 {
     refuse_with(
         b"error: this is no time: SECONDS is a number from 1 to 1000000\n\n\
@@ -180,7 +185,8 @@ pub(crate) fn refuse_run_limit<E: Says>(errors: &mut E) -> Ending
 
 /// Refuses words of `check` that name no time.
 pub(crate) fn refuse_check_limit<E: Says>(errors: &mut E) -> Ending
-    ensures { RefusesWith no_check_seconds_text (saying E.contents E.tried errors.old errors.new) result }
+    ensures { RefusesWith no_check_seconds_text (saying E.contents E.tried errors.old errors.new)
+        result }
 {
     refuse_with(
         b"error: this is no time: SECONDS is a number from 1 to 1000000\n\n\

@@ -29,7 +29,8 @@ fn live_reported<Y: System, T: Tells + Copy>(
     mut outside: Outside<Y>,
     path: &str,
 ) -> Performed<Y>
-    ensures does { LivesAs ⟦<Y as Seen>⟧.outer setting.manner T.voice outside result.outside result.ending path.now }
+    ensures does { LivesAs ⟦<Y as Seen>⟧.outer setting.manner T.voice outside result.outside
+        result.ending path.now }
     ensures leaves { result.outside.progress ≡ outside.progress }
 {
     if let Err(why) = outside.places.hold() {
@@ -69,7 +70,8 @@ fn live_reported<Y: System, T: Tells + Copy>(
 
 /// `live` in words.
 pub(crate) fn live_at<Y: System>(alloc: Global, outside: Outside<Y>, path: &str) -> Performed<Y>
-    ensures does { DoesLive ⟦<Y as Seen>⟧.outer in_words outside result.outside result.ending path.now }
+    ensures does { DoesLive ⟦<Y as Seen>⟧.outer in_words outside result.outside result.ending
+        path.now }
     ensures leaves { result.outside.progress ≡ outside.progress }
 {
     let setting = LineSetting {
@@ -86,7 +88,8 @@ pub(crate) fn live_json_at<Y: System>(
     outside: Outside<Y>,
     path: &str,
 ) -> Performed<Y>
-    ensures does { DoesLive ⟦<Y as Seen>⟧.outer in_json outside result.outside result.ending path.now }
+    ensures does { DoesLive ⟦<Y as Seen>⟧.outer in_json outside result.outside result.ending
+        path.now }
     ensures leaves { result.outside.progress ≡ outside.progress }
 {
     let setting = LineSetting {
@@ -103,7 +106,8 @@ pub(crate) fn live_partial_at<Y: System>(
     mut outside: Outside<Y>,
     path: &str,
 ) -> Performed<Y>
-    ensures does { DoesLive ⟦<Y as Seen>⟧.outer in_json outside result.outside result.ending path.now }
+    ensures does { DoesLive ⟦<Y as Seen>⟧.outer in_json outside result.outside result.ending
+        path.now }
     ensures leaves { result.outside.progress ≡ outside.progress }
 {
     outside.sources.tell_partial();
@@ -117,7 +121,8 @@ fn run_reported<Y: System>(
     strict: bool,
     path: &str,
 ) -> Performed<Y>
-    ensures does { RunsScript ⟦<Y as Seen>⟧.outer strict outside result.outside result.ending path.now }
+    ensures does { RunsScript ⟦<Y as Seen>⟧.outer strict outside result.outside result.ending
+        path.now }
     ensures leaves { result.outside.progress ≡ outside.progress }
 {
     if let Err(why) = outside.places.hold() {
@@ -162,7 +167,8 @@ pub(crate) fn run_at<Y: System>(
     path: &str,
     words: RunWords<'_>,
 ) -> Performed<Y>
-    ensures does { DoesRun ⟦<Y as Seen>⟧.outer outside result.outside result.ending path.now (run_view words.entry) }
+    ensures does { DoesRun ⟦<Y as Seen>⟧.outer outside result.outside result.ending path.now
+        (run_view words.entry) }
     ensures leaves { result.outside.progress ≡ outside.progress }
 {
     let Some(limit) = read_limit(words.timeout) else {

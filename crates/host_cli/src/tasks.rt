@@ -66,8 +66,10 @@ fn eval_as<Y: System, T: Tells + Copy>(
     tells: T,
     path: &str,
 ) -> Performed<Y>
-    ensures does { EvaluatesAs ⟦<Y as Seen>⟧.outer T.voice plan outside result.outside result.ending path.now }
-    ensures leaves { (result.outside.input ≡ outside.input) × (result.outside.progress ≡ outside.progress) }
+    ensures does { EvaluatesAs ⟦<Y as Seen>⟧.outer T.voice plan outside result.outside result.ending
+        path.now }
+    ensures leaves { (result.outside.input ≡ outside.input)
+        × (result.outside.progress ≡ outside.progress) }
 {
     if let Err(why) = outside.places.hold() {
         return ended(end_unheld(why, &mut outside.errors), outside);
@@ -114,8 +116,10 @@ fn eval_reported<Y: System>(
     json: bool,
     path: &str,
 ) -> Performed<Y>
-    ensures does { EvaluatesAs ⟦<Y as Seen>⟧.outer (voice_by json) plan outside result.outside result.ending path.now }
-    ensures leaves { (result.outside.input ≡ outside.input) × (result.outside.progress ≡ outside.progress) }
+    ensures does { EvaluatesAs ⟦<Y as Seen>⟧.outer (voice_by json) plan outside result.outside
+        result.ending path.now }
+    ensures leaves { (result.outside.input ≡ outside.input)
+        × (result.outside.progress ≡ outside.progress) }
 {
     if json {
         eval_as(alloc, outside, plan, InJson { alloc }, path)
@@ -131,8 +135,10 @@ fn eval_at<Y: System>(
     path: &str,
     words: EvalWords<'_>,
 ) -> Performed<Y>
-    ensures does { DoesEval ⟦<Y as Seen>⟧.outer outside result.outside result.ending path.now (eval_view words.entry) }
-    ensures leaves { LeavesAlone outside result.outside (asked.eval path.now (eval_view words.entry)) }
+    ensures does { DoesEval ⟦<Y as Seen>⟧.outer outside result.outside result.ending path.now
+        (eval_view words.entry) }
+    ensures leaves { LeavesAlone outside result.outside (asked.eval path.now
+        (eval_view words.entry)) }
 {
     match read_plan(alloc, &words) {
         Ok(plan) => eval_reported(alloc, outside, plan, words.json, path),
@@ -198,7 +204,8 @@ fn export_at<Y: System>(alloc: Global, outside: &mut Outside<Y>, name: &str, pat
 /// the path, once the places of closed streams are held. What they give goes to the output, and the line of a fault to the
 /// errors. `check` alone has `progress` show something.
 pub fn do_task<Y: System>(alloc: Global, task: Task<'_>, mut outside: Outside<Y>) -> Performed<Y>
-    ensures does { DoesTask ⟦<Y as Seen>⟧.outer outside result.outside result.ending (task_view task.entry) }
+    ensures does { DoesTask ⟦<Y as Seen>⟧.outer outside result.outside result.ending
+        (task_view task.entry) }
     ensures leaves { LeavesAlone outside result.outside (task_view task.entry) }
 {
     match task {
@@ -239,7 +246,8 @@ pub fn do_task<Y: System>(alloc: Global, task: Task<'_>, mut outside: Outside<Y>
 fn end_unsent<E: Says>(alone: Ending, errors: &mut E) -> Ending
     ensures same { alone.status ≡ 1 → (result ≡ alone) × (errors.new ≡ errors.old) }
     ensures unsent { alone.status ≢ 1 → (result.status ≡ 1)
-        × TellsFault (saying E.contents E.tried errors.old errors.new) result.reported (Err fault.Output) }
+        × TellsFault (saying E.contents E.tried errors.old errors.new) result.reported
+        (Err fault.Output) }
 {
     if alone.status == 1 {
         alone
@@ -264,7 +272,8 @@ fn perform_unsent<Y: System>(
     words: Result<Vec<String>, io::ErrorKind>,
     mut outside: Outside<Y>,
 ) -> Performed<Y>
-    ensures { EndsWithin ⟦<Y as Seen>⟧.outer (λ all. map string_bytes all.items) words outside result.outside result.ending }
+    ensures { EndsWithin ⟦<Y as Seen>⟧.outer (λ all. map string_bytes all.items) words outside
+        result.outside result.ending }
 {
     match words {
         Ok(words) => match read_words(alloc, words.as_slice()) {
@@ -288,7 +297,8 @@ pub fn perform<Y: System>(
     words: Result<Vec<String>, io::ErrorKind>,
     outside: Outside<Y>,
 ) -> Performed<Y>
-    ensures { Performs ⟦<Y as Seen>⟧.outer (λ all. map string_bytes all.items) words outside result.outside result.ending }
+    ensures { Performs ⟦<Y as Seen>⟧.outer (λ all. map string_bytes all.items) words outside
+        result.outside result.ending }
 {
     let Performed {
         ending,

@@ -58,13 +58,16 @@ impl<D: Disk> Journal<D> {
         // A crash at any moment of the call leaves the payloads from before it, with all of these or with none.
         ensures any_moment { InModel self.disk
             ((payloads : List (List ℕ)) → Keeps self.disk.history self.end payloads
-            → LeavesOnly (BeforeOrAll self.disk.history.now payloads group.now.payloads) self.disk.history
+            → LeavesOnly (BeforeOrAll self.disk.history.now payloads group.now.payloads)
+            self.disk.history
             (disk_after D.view result).history) }
 
-        ensures ends { IfOk result (λ journal. journal.end ≡ self.end + length (records group.now.payloads)) }
+        ensures ends { IfOk result (λ journal. journal.end ≡ self.end + length
+            (records group.now.payloads)) }
 
         // Of a group without a payload no call is made.
-        ensures nothing { group.now.payloads ≡ [] → MatchResult result (λ journal. journal ≡ self) (λ _. ⊥) }
+        ensures nothing { group.now.payloads ≡ []
+            → MatchResult result (λ journal. journal ≡ self) (λ _. ⊥) }
 
         ensures unchanged { HandsBack result self }
         ensures full { IsFull result ↔ (group.now.payloads ≢ [])

@@ -78,7 +78,8 @@ impl<D: Disk> Front<D> {
 
         // Whether the disk keeps the model or not, it stands at the first gate.
         ensures first { IfOk result
-            (λ front. (front.gate ≡ first_gate) × (first_gate ≤ front.end) × (front.end ≤ greatest_room)) }
+            (λ front. (front.gate ≡ first_gate) × (first_gate ≤ front.end)
+            × (front.end ≤ greatest_room)) }
 
         // It changes no byte, and at every moment each image is one that a crash could leave at the start.
         ensures looks { InModel (D.view disk)

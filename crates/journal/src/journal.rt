@@ -150,7 +150,8 @@ impl<D: Disk> Journal<D> {
             (λ e. e.cause ≡ CreateCause.Disk → Rises (D.view disk).faults (D.view e.disk).faults) }
         ensures steady { MatchResult result
             (λ journal. journal.disk.faults ≡ (D.view disk).faults)
-            (λ e. (e.cause ≡ CreateCause.Disk → ⊥) → (D.view e.disk).faults ≡ (D.view disk).faults) }
+            (λ e. (e.cause ≡ CreateCause.Disk → ⊥)
+            → (D.view e.disk).faults ≡ (D.view disk).faults) }
     {
         match create(disk) {
             Ok(disk) => Ok(Journal::ending_at(disk, Area::First, FIRST_GATE)),

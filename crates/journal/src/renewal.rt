@@ -84,7 +84,8 @@ fn lay_batch<D: Disk>(disk: &mut D, area: Area, end: u64, bytes: &[u8]) -> Resul
         ((payloads more : List (List ℕ)) → ArePayloads longest_payload more
         → bytes.now ≡ records more ++ closed_gate ∷ [] → end ≡ end_of payloads
         → StandsFor longest_payload (area_of area (bytes_on (D.view disk.old))) payloads
-        → StandsFor longest_payload (area_of area (bytes_on (D.view disk.new))) (payloads ++ more))) }
+        → StandsFor longest_payload (area_of area (bytes_on (D.view disk.new)))
+        (payloads ++ more))) }
 {
     disk.write_at(area, end, bytes)
 }
@@ -101,7 +102,8 @@ fn lay_from<D: Disk, S: Source>(
     requires memory { HoldsEach (vec_capacity batch.old) (S.payloads source.now) }
     requires room { InModel (D.view disk.old)
         (FitsAgain (D.view disk.old).room (S.payloads source.now)) }
-    requires headed { InModel (D.view disk.old) (first_gate < length (bytes_on (D.view disk.old)).first) }
+    requires headed { InModel (D.view disk.old) (first_gate < length
+        (bytes_on (D.view disk.old)).first) }
     ensures called { Called result (D.view disk.old) (D.view disk.new) }
     ensures spared { InModel (D.view disk.old)
         (SparedBy area (bytes_on (D.view disk.old)) (bytes_on (D.view disk.new))) }
@@ -163,7 +165,8 @@ pub(crate) fn write_from<D: Disk, S: Source>(
     ensures acknowledged { OnOk result
         (InModel (D.view disk.old)
         ((end : ℕ) (payloads : List (List ℕ)) → Keeps (D.view disk.old).history end payloads
-        → Keeps (D.view disk.new).history (end_of (S.payloads source.now)) (S.payloads source.now))) }
+        → Keeps (D.view disk.new).history (end_of (S.payloads source.now))
+        (S.payloads source.now))) }
 {
     let end = lay_from(disk, area, source, batch)?;
     turn(disk, area)?;

@@ -44,7 +44,8 @@ pub(crate) fn end_of_frames(room: u64, frames: &[Frame]) -> Option<u64>
 /// Lays no record into an area: a closed gate, after the header of area First, or a header in area Second.
 pub(crate) fn lay_none<D: Disk>(disk: &mut D, area: Area) -> Result<(), DiskFault>
     requires room { InModel (D.view disk.old) (first_gate + 1 ≤ (D.view disk.old).room) }
-    requires headed { InModel (D.view disk.old) (first_gate < length (bytes_on (D.view disk.old)).first) }
+    requires headed { InModel (D.view disk.old) (first_gate < length
+        (bytes_on (D.view disk.old)).first) }
     ensures called { Called result (D.view disk.old) (D.view disk.new) }
     ensures spared { InModel (D.view disk.old)
         (SparedBy area (bytes_on (D.view disk.old)) (bytes_on (D.view disk.new))) }
@@ -52,7 +53,8 @@ pub(crate) fn lay_none<D: Disk>(disk: &mut D, area: Area) -> Result<(), DiskFaul
         (LeavesOnly (Spares area (D.view disk.old).history.now) (D.view disk.old).history
         (D.view disk.new).history) }
     ensures inside { OnOk result
-        (InModel (D.view disk.old) (first_gate < length (area_of area (bytes_on (D.view disk.new))))) }
+        (InModel (D.view disk.old) (first_gate < length (area_of area
+        (bytes_on (D.view disk.new))))) }
     ensures laid { OnOk result
         (InModel (D.view disk.old)
         (HasHeader (bytes_on (D.view disk.old)).first
@@ -97,7 +99,8 @@ fn lay_record<D: Disk>(disk: &mut D, area: Area, end: u64, bytes: &[u8]) -> Resu
 fn lay_all<D: Disk>(disk: &mut D, area: Area, frames: &[Frame]) -> Result<(), DiskFault>
     requires small { end_of frames.now + 1 ≤ greatest_room }
     requires room { InModel (D.view disk.old) (FitsAgain (D.view disk.old).room frames.now) }
-    requires headed { InModel (D.view disk.old) (first_gate < length (bytes_on (D.view disk.old)).first) }
+    requires headed { InModel (D.view disk.old) (first_gate < length
+        (bytes_on (D.view disk.old)).first) }
     ensures called { Called result (D.view disk.old) (D.view disk.new) }
     ensures spared { InModel (D.view disk.old)
         (SparedBy area (bytes_on (D.view disk.old)) (bytes_on (D.view disk.new))) }
@@ -140,12 +143,14 @@ fn selector_naming(area: Area) -> u8
 /// Names an area as the active one.
 pub(crate) fn turn<D: Disk>(disk: &mut D, area: Area) -> Result<(), DiskFault>
     requires room { InModel (D.view disk.old) (first_gate ≤ (D.view disk.old).room) }
-    requires headed { InModel (D.view disk.old) (first_gate < length (bytes_on (D.view disk.old)).first) }
+    requires headed { InModel (D.view disk.old) (first_gate < length
+        (bytes_on (D.view disk.old)).first) }
     ensures called { Called result (D.view disk.old) (D.view disk.new) }
     ensures active { OnOk result
         (InModel (D.view disk.old) (IsActive area (bytes_on (D.view disk.new)))) }
     ensures inside { (n : ℕ) → n < length (area_of area (bytes_on (D.view disk.old)))
-        → OnOk result (InModel (D.view disk.old) (n < length (area_of area (bytes_on (D.view disk.new))))) }
+        → OnOk result (InModel (D.view disk.old) (n < length (area_of area
+        (bytes_on (D.view disk.new))))) }
     ensures any_moment { InModel (D.view disk.old)
         ((before payloads : List (List ℕ))
         → IsReadyToTurn area before payloads (D.view disk.old).history

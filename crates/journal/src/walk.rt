@@ -81,7 +81,8 @@ fn after_header(bytes: &[u8]) -> Option<(u8, &[u8])>
 
 /// Where the walk over the gates of the window's area ends, which begins with a header.
 pub(crate) fn walk_gates<D: Disk>(window: &mut Window, disk: &mut D) -> Result<Stop, OpenCause>
-    requires header { InModel (D.view disk.old) (HasHeader (area_of window.old.area (bytes_on (D.view disk.old)))) }
+    requires header { InModel (D.view disk.old) (HasHeader (area_of window.old.area
+        (bytes_on (D.view disk.old)))) }
     requires some { first_gate < window.old.limit }
     requires shows { InModel (D.view disk.old)
         (Shows window.old (area_of window.old.area (bytes_on (D.view disk.old)))) }
@@ -94,7 +95,8 @@ pub(crate) fn walk_gates<D: Disk>(window: &mut Window, disk: &mut D) -> Result<S
         (IfOk result (λ stop. (payloads : List (List ℕ))
         × HasFront longest_payload (area_of window.old.area (bytes_on (D.view disk.old))) payloads
         stop.damaged × (stop.gate ≡ end_of payloads))) }
-    ensures inside { IfOk result (λ stop. (first_gate ≤ stop.gate) × (stop.gate < window.new.limit)) }
+    ensures inside { IfOk result (λ stop. (first_gate ≤ stop.gate)
+        × (stop.gate < window.new.limit)) }
     ensures cause { IfErr result IsPassing }
 {
     let mut gate = FIRST_GATE;
@@ -150,7 +152,8 @@ fn payload_len_at(front: &[u8], left: u64, most: u64) -> u64
     requires front { min left 5 ≤ length front.now }
     requires most { 1 ≤ most }
     ensures len { (1 ≤ result) × (result ≤ most) × (result ≤ longest_payload) }
-    ensures reported { (payload rest : List ℕ) → IsPayload longest_payload payload → length payload ≤ most
+    ensures reported { (payload rest : List ℕ) → IsPayload longest_payload payload
+        → length payload ≤ most
         → 0 < length rest → left ≡ length (record_of payload ++ rest)
         → Begins front.now (record_of payload ++ rest) → result ≡ length payload }
 {
@@ -182,7 +185,8 @@ pub(crate) fn payload_at<D: Disk>(
     ensures bytes { InModel (D.view disk.old)
         ((payload rest : List ℕ) → IsPayload longest_payload payload → 0 < length rest
         → gate + 5 + length payload ≤ end
-        → drop gate (area_of window.old.area (bytes_on (D.view disk.old))) ≡ record_of payload ++ rest
+        → drop gate (area_of window.old.area (bytes_on (D.view disk.old))) ≡ record_of payload
+        ++ rest
         → IfOk result (λ bytes. bytes.items ≡ payload)) }
 {
     let left = window.limit - gate;

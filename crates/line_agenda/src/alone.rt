@@ -95,7 +95,8 @@ fn command_turn(alloc: Global, number: u64, command: Command) -> Result<Turn, Al
 
 /// What a command asks for, and what is done after it.
 fn choose_command(alloc: Global, at: Reading, command: Command) -> Result<Chosen, AllocError>
-    ensures { (w : World) → IfOk result (AsksAlone at.manner at.number w at.now (Some (LiveLine.Script (ScriptLine.Command command)))) }
+    ensures { (w : World) → IfOk result (AsksAlone at.manner at.number w at.now
+        (Some (LiveLine.Script (ScriptLine.Command command)))) }
 {
     match command_turn(alloc, at.number, command) {
         Ok(turn) => Ok(Chosen {
@@ -129,7 +130,8 @@ fn choose_script<D: Disk>(
 
 /// An interrupt, for which a line asks.
 fn choose_interrupt<D: Disk>(host: &Host<D>, at: Reading, name: Name) -> Chosen
-    ensures { (w : World) → IsHost host.now w → AsksAlone at.manner at.number w at.now (Some (LiveLine.Interrupt name)) result }
+    ensures { (w : World) → IsHost host.now w
+        → AsksAlone at.manner at.number w at.now (Some (LiveLine.Interrupt name)) result }
 {
     Chosen {
         turn: Turn::Interrupt(name),
@@ -162,7 +164,8 @@ fn choose<D: Disk>(
     at: Reading,
     said: LiveLine,
 ) -> Result<Chosen, AllocError>
-    ensures ok { (w : World) → IsHost host.now w → IfOk result (AsksAlone at.manner at.number w at.now (Some said)) }
+    ensures ok { (w : World) → IsHost host.now w
+        → IfOk result (AsksAlone at.manner at.number w at.now (Some said)) }
     ensures err { OnErr result (IsCommand (Some said)) }
 {
     match said {

@@ -88,7 +88,8 @@ impl<R: Read> ByLines<R> {
     fn next_late(&mut self) -> Option<Seat>
         ensures some { IfSome result (λ seat. self.old.late.items ≡ seat ∷ self.new.late.items) }
         ensures none { IfNone result ((self.old.late.items ≡ []) × (self.new.late.items ≡ [])) }
-        ensures stands { lines_stand R.remaining self.new ≡ with_late (lines_stand R.remaining self.old) self.new.late.items }
+        ensures stands { lines_stand R.remaining self.new ≡ with_late
+            (lines_stand R.remaining self.old) self.new.late.items }
     {
         if self.late.is_empty() {
             return None;
@@ -99,7 +100,8 @@ impl<R: Read> ByLines<R> {
     /// Interrupts this life, whose time is over.
     fn warn(&mut self, seat: Seat) -> Turn
         ensures turn { result ≡ Turn.Interrupt seat.name }
-        ensures stands { lines_stand R.remaining self.new ≡ doing_now (lines_stand R.remaining self.old) (does.Warning seat) }
+        ensures stands { lines_stand R.remaining self.new ≡ doing_now
+            (lines_stand R.remaining self.old) (does.Warning seat) }
     {
         let name = seat.name;
         self.doing = Doing::Warning(seat);
@@ -109,7 +111,8 @@ impl<R: Read> ByLines<R> {
     /// There is none to be interrupted, and two seconds more begin.
     fn give_respite(&mut self, now: u64) -> Turn
         ensures turn { result ≡ Turn.Nothing }
-        ensures stands { lines_stand R.remaining self.new ≡ holding (lines_stand R.remaining self.old)
+        ensures stands { lines_stand R.remaining self.new ≡ holding
+            (lines_stand R.remaining self.old)
             (saying.stop_if (self.old.manner.strict && true) (waits.warned now)) }
     {
         self.held = stop_if(self.manner.strict, true, warned(now));
@@ -119,7 +122,8 @@ impl<R: Read> ByLines<R> {
     /// The time is over that a line may take: each life in which an item waits is interrupted, one after the other.
     fn limit<D: Disk>(&mut self, alloc: Global, host: &Host<D>, now: u64) -> Result<Turn, RunFault>
         ensures { (w : World) → self.old.late.items ≡ [] → IsHost host.now w
-            → SaysLimit (lines_stand R.remaining self.old) w now result (lines_stand R.remaining self.new) }
+            → SaysLimit (lines_stand R.remaining self.old) w now result
+            (lines_stand R.remaining self.new) }
     {
         let Ok(seats) = waiting_lives(alloc, host) else {
             return Err(RunFault::OutOfMemory);
@@ -134,7 +138,8 @@ impl<R: Read> ByLines<R> {
     /// Hears this life, and others that are ready.
     fn hear(&mut self, seat: Seat) -> Turn
         ensures turn { result ≡ Turn.Hear seat (others self.old.manner.strict) }
-        ensures stands { lines_stand R.remaining self.new ≡ doing_now (lines_stand R.remaining self.old) does.Life }
+        ensures stands { lines_stand R.remaining self.new ≡ doing_now
+            (lines_stand R.remaining self.old) does.Life }
     {
         self.doing = Doing::Life;
         Turn::Hear(seat, most_others(self.manner.strict))
@@ -154,7 +159,8 @@ impl<R: Read> ByLines<R> {
     /// Each life in which an item waits has stalled.
     fn stall(&mut self) -> Turn
         ensures turn { result ≡ Turn.Stall }
-        ensures stands { lines_stand R.remaining self.new ≡ doing_now (lines_stand R.remaining self.old) does.Stall }
+        ensures stands { lines_stand R.remaining self.new ≡ doing_now
+            (lines_stand R.remaining self.old) does.Stall }
     {
         self.doing = Doing::Stall;
         Turn::Stall
@@ -170,7 +176,8 @@ impl<R: Read> ByLines<R> {
     ) -> Result<Turn, RunFault>
         requires { self.old.number + most_together + 1 < 2 ^ 64 }
         ensures { (w : World) → self.old.late.items ≡ [] → IsHost host.now w
-            → SaysMatter (lines_stand R.remaining self.old) w now matter result (lines_stand R.remaining self.new) }
+            → SaysMatter (lines_stand R.remaining self.old) w now matter result
+            (lines_stand R.remaining self.new) }
     {
         match matter {
             Matter::Untimely => Ok(Turn::Nothing),
@@ -185,7 +192,8 @@ impl<R: Read> ByLines<R> {
     /// What the next turn is about; what a watch returned is heeded by that.
     fn about(&mut self, now: u64) -> Matter
         ensures about { IsMatter self.old.manner.lines_first self.old.held self.old.due now result }
-        ensures stands { lines_stand R.remaining self.new ≡ heeded (lines_stand R.remaining self.old) }
+        ensures stands { lines_stand R.remaining self.new ≡ heeded
+            (lines_stand R.remaining self.old) }
     {
         let due = mem::replace(&mut self.due, None);
         matter_of(self.manner.lines_first, self.held, due, now)
@@ -198,7 +206,9 @@ impl<R: Read> ByLines<R> {
         host: &Host<D>,
         now: u64,
     ) -> Result<Turn, RunFault>
-        ensures { (w : World) → IsHost host.now w → LinesSay (lines_stand R.remaining self.old) w now result (lines_stand R.remaining self.new) }
+        ensures { (w : World) → IsHost host.now w
+            → LinesSay (lines_stand R.remaining self.old) w now result
+            (lines_stand R.remaining self.new) }
     {
         if is_stopped(self.held) {
             return Ok(Turn::End);

@@ -73,7 +73,8 @@ fn any_of_both_closed(outcomes: &[Outcome], later: &[Outcome]) -> bool
 
 /// Whether something closed by events, by those that joined them, or by what followed.
 fn joined_closed(gave: &GaveJoined) -> bool
-    ensures { result ≡ heeds.closed_one (came (gave.now.outcomes.items ++ gave.now.later.items) gave.now.replies.items) }
+    ensures { result ≡ heeds.closed_one (came (gave.now.outcomes.items ++ gave.now.later.items)
+        gave.now.replies.items) }
 {
     any_of_both_closed(gave.outcomes.as_slice(), gave.later.as_slice())
         || any_closed(gave.replies.as_slice())
@@ -81,7 +82,8 @@ fn joined_closed(gave: &GaveJoined) -> bool
 
 /// Whether something was refused by events, by those that joined them or by what followed, or items were lost.
 fn joined_wrong(gave: &GaveJoined) -> bool
-    ensures { result ≡ heeds.went_wrong (came (gave.now.outcomes.items ++ gave.now.later.items) gave.now.replies.items) }
+    ensures { result ≡ heeds.went_wrong (came (gave.now.outcomes.items ++ gave.now.later.items)
+        gave.now.replies.items) }
 {
     any_of_both_wrong(gave.outcomes.as_slice(), gave.later.as_slice())
         || any_wrong(gave.replies.as_slice())
@@ -187,7 +189,8 @@ impl<R: Read> ByLines<R> {
     /// What is noted of what lives gave, and which wait goes on.
     fn heed_life<D: Disk>(&mut self, host: &Host<D>, now: u64, came: &Came) -> Option<Note>
         ensures { (w : World) → IsHost host.now w → (held : TheHold)
-            × HeedsDone (lines_stand R.remaining self.old) w now (came_of came.now) Doing.Life result held
+            × HeedsDone (lines_stand R.remaining self.old) w now
+            (came_of came.now) Doing.Life result held
             × (lines_stand R.remaining self.new ≡ holding (lines_stand R.remaining self.old) held) }
     {
         let before = self.held;
@@ -198,9 +201,12 @@ impl<R: Read> ByLines<R> {
 
     /// What is noted of the commands of the transaction that this line began: a refusal goes wrong.
     fn heed_transaction(&mut self, first: u64, came: &Came) -> Option<Note>
-        ensures note { result ≡ Some (transaction_note first self.old.number (refused_one (came_of came.now))) }
-        ensures stands { lines_stand R.remaining self.new ≡ holding (lines_stand R.remaining self.old)
-            (saying.stop_if (self.old.manner.strict && refused_one (came_of came.now)) self.old.held) }
+        ensures note { result ≡ Some (transaction_note first self.old.number
+            (refused_one (came_of came.now))) }
+        ensures stands { lines_stand R.remaining self.new ≡ holding
+            (lines_stand R.remaining self.old)
+            (saying.stop_if (self.old.manner.strict && refused_one (came_of came.now))
+            self.old.held) }
     {
         let refused = refused_one(came);
         self.held = stop_if(self.manner.strict, refused, self.held);
@@ -216,7 +222,8 @@ impl<R: Read> ByLines<R> {
         doing: Doing,
     ) -> Option<Note>
         ensures { (w : World) → IsHost host.now w → (held : TheHold)
-            × HeedsDone (lines_stand R.remaining self.old) w now (came_of came.now) doing result held
+            × HeedsDone (lines_stand R.remaining self.old) w now
+            (came_of came.now) doing result held
             × (lines_stand R.remaining self.new ≡ holding (lines_stand R.remaining self.old) held) }
     {
         let strict = self.manner.strict;

@@ -31,7 +31,8 @@ impl<R: Read> ByLines<R> {
     fn group(&mut self, events: Vec<Event>, count: u64) -> Turn
         requires { self.old.number + count + 1 < 2 ^ 64 }
         ensures turn { AsksLines (self.old.number + 1) events.items result }
-        ensures stands { lines_stand R.remaining self.new ≡ after_group (lines_stand R.remaining self.old) count }
+        ensures stands { lines_stand R.remaining self.new ≡ after_group
+            (lines_stand R.remaining self.old) count }
     {
         let first = self.number + 1;
         self.number += count;
@@ -43,7 +44,8 @@ impl<R: Read> ByLines<R> {
     fn follow(&mut self, chosen: Chosen) -> Turn
         requires { self.old.number + 1 < 2 ^ 64 }
         ensures turn { result ≡ chosen.turn }
-        ensures stands { lines_stand R.remaining self.new ≡ after_line (lines_stand R.remaining self.old) chosen }
+        ensures stands { lines_stand R.remaining self.new ≡ after_line
+            (lines_stand R.remaining self.old) chosen }
     {
         let Chosen {
             turn,
@@ -76,7 +78,8 @@ impl<R: Read> ByLines<R> {
     fn lack_memory(&mut self) -> RunFault
         requires { self.old.number + 1 < 2 ^ 64 }
         ensures fault { result ≡ fault.OutOfMemory }
-        ensures stands { lines_stand R.remaining self.new ≡ counted (lines_stand R.remaining self.old) }
+        ensures stands { lines_stand R.remaining self.new ≡ counted
+            (lines_stand R.remaining self.old) }
     {
         self.number += 1;
         self.transaction = None;
@@ -92,7 +95,8 @@ impl<R: Read> ByLines<R> {
     ) -> Result<Turn, RunFault>
         requires { self.old.number + 1 < 2 ^ 64 }
         ensures { (w : World) → IsHost host.now w
-            → TakesGivenLine (with_transaction (lines_stand R.remaining self.old) None) w now (live_line_of self.old.lines.held.line) result (lines_stand R.remaining self.new) }
+            → TakesGivenLine (with_transaction (lines_stand R.remaining self.old) None) w now
+            (live_line_of self.old.lines.held.line) result (lines_stand R.remaining self.new) }
     {
         let at = self.reading(now);
         match choose_line(alloc, host, at, self.lines.line()) {
@@ -109,7 +113,9 @@ impl<R: Read> ByLines<R> {
         transaction: Transaction,
     ) -> Result<Turn, RunFault>
         requires { self.old.number + 1 < 2 ^ 64 }
-        ensures { (w : World) → TakesGivenLine (with_transaction (lines_stand R.remaining self.old) (Some transaction)) w now (live_line_of self.old.lines.held.line) result (lines_stand R.remaining self.new) }
+        ensures { (w : World) → TakesGivenLine (with_transaction (lines_stand R.remaining self.old)
+            (Some transaction)) w now (live_line_of self.old.lines.held.line) result
+            (lines_stand R.remaining self.new) }
     {
         let number = self.number + 1;
         match choose_in_transaction(alloc, transaction, number, self.lines.line()) {
@@ -127,7 +133,8 @@ impl<R: Read> ByLines<R> {
     ) -> Result<Turn, RunFault>
         requires { self.old.number + 1 < 2 ^ 64 }
         ensures { (w : World) → IsHost host.now w
-            → TakesGivenLine (lines_stand R.remaining self.old) w now (live_line_of self.old.lines.held.line) result (lines_stand R.remaining self.new) }
+            → TakesGivenLine (lines_stand R.remaining self.old) w now
+            (live_line_of self.old.lines.held.line) result (lines_stand R.remaining self.new) }
     {
         match mem::replace(&mut self.transaction, None) {
             None => self.take_by_itself(alloc, host, now),
@@ -138,7 +145,8 @@ impl<R: Read> ByLines<R> {
     /// Takes a line that is too long.
     fn take_too_long(&mut self, now: u64) -> Turn
         requires { self.old.number + 1 < 2 ^ 64 }
-        ensures { (w : World) → TakesAlone (lines_stand R.remaining self.old) w now None result (lines_stand R.remaining self.new) }
+        ensures { (w : World) → TakesAlone (lines_stand R.remaining self.old) w now None result
+            (lines_stand R.remaining self.new) }
     {
         let at = self.reading(now);
         match mem::replace(&mut self.transaction, None) {
@@ -149,7 +157,8 @@ impl<R: Read> ByLines<R> {
 
     /// The input is at its end: of a transaction that is open nothing is done.
     fn end_input(&mut self) -> Turn
-        ensures { EndsInput self.old.transaction (lines_stand R.remaining self.old) result (lines_stand R.remaining self.new) }
+        ensures { EndsInput self.old.transaction (lines_stand R.remaining self.old) result
+            (lines_stand R.remaining self.new) }
     {
         match mem::replace(&mut self.transaction, None) {
             None => Turn::End,
@@ -162,7 +171,8 @@ impl<R: Read> ByLines<R> {
 
     /// Reads more of the input.
     fn read_on(&mut self) -> Result<Turn, RunFault>
-        ensures { ReadsOn (lines_stand R.remaining self.old) result (lines_stand R.remaining self.new) }
+        ensures { ReadsOn (lines_stand R.remaining self.old) result
+            (lines_stand R.remaining self.new) }
     {
         match self.lines.fill() {
             Ok(()) => Ok(Turn::Nothing),
@@ -178,7 +188,9 @@ impl<R: Read> ByLines<R> {
         now: u64,
     ) -> Result<Turn, RunFault>
         requires { self.old.number + 1 < 2 ^ 64 }
-        ensures { (w : World) → IsHost host.now w → TakesInput (lines_stand R.remaining self.old) w now result (lines_stand R.remaining self.new) }
+        ensures { (w : World) → IsHost host.now w
+            → TakesInput (lines_stand R.remaining self.old) w now result
+            (lines_stand R.remaining self.new) }
     {
         match self.lines.next() {
             NextLine::Line => self.take_line(alloc, host, now),
@@ -190,7 +202,8 @@ impl<R: Read> ByLines<R> {
 
     /// Whether each line is taken by itself: in a strict input, and in a transaction.
     fn takes_one_by_one(&self) -> bool
-        ensures { result ≡ false → (self.now.manner.strict ≡ false) × (self.now.transaction ≡ None) }
+        ensures { result ≡ false → (self.now.manner.strict ≡ false)
+            × (self.now.transaction ≡ None) }
     {
         match &self.transaction {
             Some(_) => true,
@@ -206,7 +219,9 @@ impl<R: Read> ByLines<R> {
         now: u64,
     ) -> Result<Turn, RunFault>
         requires { self.old.number + most_together + 1 < 2 ^ 64 }
-        ensures { (w : World) → IsHost host.now w → TakesInput (lines_stand R.remaining self.old) w now result (lines_stand R.remaining self.new) }
+        ensures { (w : World) → IsHost host.now w
+            → TakesInput (lines_stand R.remaining self.old) w now result
+            (lines_stand R.remaining self.new) }
     {
         if self.takes_one_by_one() {
             return self.take_next(alloc, host, now);

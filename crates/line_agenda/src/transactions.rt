@@ -58,7 +58,8 @@ pub(crate) fn break_at(transaction: Transaction, number: u64) -> Chosen
 ///
 /// `AllocError` where there is no memory for it.
 fn keep(transaction: Transaction, number: u64, command: Command) -> Result<Chosen, AllocError>
-    ensures { IfOk result (λ chosen. chosen ≡ transactions.keeps_command transaction number (asks.Command command)) }
+    ensures { IfOk result (λ chosen. chosen ≡ transactions.keeps_command transaction number
+        (asks.Command command)) }
 {
     if transaction.broken || transaction.edits.len() >= MOST_TOGETHER {
         return Ok(break_at(transaction, number));
@@ -73,14 +74,16 @@ fn keep(transaction: Transaction, number: u64, command: Command) -> Result<Chose
 
 /// The end of a transaction of which nothing is taken: this is noted.
 fn end_with(note: Note) -> Chosen
-    ensures { result ≡ transactions.in_transaction (Turn.Show (Show.Note note)) (Doing.Line false) None }
+    ensures { result ≡ transactions.in_transaction (Turn.Show (Show.Note note))
+        (Doing.Line false) None }
 {
     in_transaction(Turn::Show(Show::Note(note)), Doing::Line(false), None)
 }
 
 /// The end of a transaction.
 fn end(transaction: Transaction, last: u64) -> Chosen
-    ensures { result ≡ transactions.ends_transaction transaction.broken transaction.edits transaction.first last }
+    ensures { result ≡ transactions.ends_transaction transaction.broken transaction.edits
+        transaction.first last }
 {
     let Transaction {
         first,
@@ -103,7 +106,8 @@ fn choose_script(
     number: u64,
     said: ScriptLine,
 ) -> Result<Chosen, AllocError>
-    ensures ok { IfOk result (λ chosen. chosen ≡ transactions.asked_in transaction number (Some (LiveLine.Script said))) }
+    ensures ok { IfOk result (λ chosen. chosen ≡ transactions.asked_in transaction number
+        (Some (LiveLine.Script said))) }
     ensures err { OnErr result (IsCommand (Some (LiveLine.Script said))) }
 {
     match said {
@@ -117,7 +121,8 @@ fn choose_script(
 
 /// What this asks for in a transaction.
 fn choose(transaction: Transaction, number: u64, said: LiveLine) -> Result<Chosen, AllocError>
-    ensures ok { IfOk result (λ chosen. chosen ≡ transactions.asked_in transaction number (Some said)) }
+    ensures ok { IfOk result (λ chosen. chosen ≡ transactions.asked_in transaction number
+        (Some said)) }
     ensures err { OnErr result (IsCommand (Some said)) }
 {
     match said {
@@ -140,7 +145,8 @@ pub(crate) fn choose_in_transaction(
     number: u64,
     line: &[u8],
 ) -> Result<Chosen, AllocError>
-    ensures ok { IfOk result (λ chosen. chosen ≡ transactions.asked_in transaction number (live_line_of line.now)) }
+    ensures ok { IfOk result (λ chosen. chosen ≡ transactions.asked_in transaction number
+        (live_line_of line.now)) }
     ensures err { OnErr result (IsCommand (live_line_of line.now)) }
 {
     match read_live_line(alloc, line) {

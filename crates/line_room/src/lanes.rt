@@ -37,7 +37,8 @@ pub(crate) fn put_lanes(bytes: &[u8], at: usize, room: &mut [u8], used: usize) -
     requires place { used + LANES ≤ length room.old }
     ensures size { length room.new ≡ length room.old }
     ensures run { IsRunIn (is_plain false) bytes.now at LANES result }
-    ensures put { take (used + LANES) room.new ≡ take used room.old ++ take LANES (drop at bytes.now) }
+    ensures put { take (used + LANES) room.new ≡ take used room.old ++ take LANES
+        (drop at bytes.now) }
 {
     room[used..used + LANES].copy_from_slice(&bytes[at..at + LANES]);
     run_at(bytes, at)

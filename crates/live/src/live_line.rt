@@ -121,8 +121,10 @@ fn read_parts(name: &[u8], rest: Option<&[u8]>) -> Option<LiveLine>
 
 /// One of the forms that a script doesn't have.
 fn read_other(line: &[u8]) -> Result<LiveLine, LineFault>
-    ensures ok { IfOk result (λ read. live.form_of (said.before_space line.now) (said.after_space line.now) ≡ Some read) }
-    ensures bad { IsErrOf result fault.BadLine → live.form_of (said.before_space line.now) (said.after_space line.now) ≡ None }
+    ensures ok { IfOk result (λ read. live.form_of (said.before_space line.now)
+        (said.after_space line.now) ≡ Some read) }
+    ensures bad { IsErrOf result fault.BadLine
+        → live.form_of (said.before_space line.now) (said.after_space line.now) ≡ None }
     ensures held { IsErrOf result fault.OutOfMemory → ⊥ }
 {
     let (name, rest) = split_space(line);

@@ -45,7 +45,8 @@ fn limit_of(stream: &[u8], start: usize) -> usize
 /// What is seen of a block where the limit stands in a tag, whose name begins there.
 fn end_in_name(stream: &[u8], start: usize, name: usize, limit: usize) -> Seen
     requires limit { IsLimit limits stream.now start limit }
-    requires there { (levels : ℕ) × AtTag limits stream.now start name levels × NameUpTo limits.tag stream.now name limit }
+    requires there { (levels : ℕ) × AtTag limits stream.now start name levels
+        × NameUpTo limits.tag stream.now name limit }
     requires low { name ≤ limit }
     ensures found { Finds limits stream.now start result }
     ensures ahead { LiesAhead start (length stream.now) result }

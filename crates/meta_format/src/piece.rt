@@ -89,7 +89,8 @@ pub fn scan_piece(
 ) -> Result<(), Stop>
     requires placed { IsPlaced bounds.block scanner.old }
     requires block { 0 < bounds.block }
-    ensures scans { Scans (most_of bounds) (scan_state scanner.old (outers found.old.items)) piece.now result scanner.new found.new.items }
+    ensures scans { Scans (most_of bounds) (scan_state scanner.old (outers found.old.items))
+        piece.now result scanner.new found.new.items }
     ensures placed { OnOk result (IsPlaced bounds.block scanner.new) }
 {
     let mut at = 0;

@@ -127,7 +127,8 @@ pub fn save_rescued<D: Disk, N: Disk, W: Says>(
     ensures withheld { IfErr result.answer
         (λ e. (e ≡ rescues.Run fault.Output → ⊥) → writer.new ≡ writer.old) }
     ensures unsaid { result.answer ≡ Err (rescues.Run fault.Output)
-        → W.tried writer.old (Some (printed.kept_text found.now.kept found.now.damage)) false writer.new }
+        → W.tried writer.old (Some (printed.kept_text found.now.kept found.now.damage)) false
+        writer.new }
 {
     match save(alloc, disk, &found.sheet) {
         Ok(disk) => Saved {

@@ -17,7 +17,8 @@ pub trait Message {
 
     /// Writes it.
     fn write<W: Write>(&self, out: &mut W) -> Result<(), WriteFault>
-        ensures { OnOk result (IfSome (text self.now) (Appends (W.contents out.old) (W.contents out.new))) };
+        ensures { OnOk result (IfSome (text self.now) (Appends (W.contents out.old)
+            (W.contents out.new))) };
 }
 
 /// A stream on which messages are said.
@@ -34,7 +35,8 @@ pub trait Says: Write {
     /// Says a message, and whether all of it went out.
     fn say<M: Message>(&mut self, message: &M) -> bool
         ensures tried { tried self.old (M.text message.now) result self.new }
-        ensures text { result ≡ true → IfSome (M.text message.now) (Appends (Self.contents self.old) (Self.contents self.new)) };
+        ensures text { result ≡ true → IfSome (M.text message.now)
+            (Appends (Self.contents self.old) (Self.contents self.new)) };
 }
 
 impl Says for Stderr {

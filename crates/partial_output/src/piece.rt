@@ -83,7 +83,8 @@ impl<W: Write + Drop> Beside<W> {
     /// of them do.
     #[tactic(auto, using(crate::proofs::Nothing::nothing))]
     pub fn tell(&mut self, seat: Seat, bytes: &[u8])
-        ensures wrote { self.new.tells ≡ true → Appends (W.contents self.old.writer) (W.contents self.new.writer)
+        ensures wrote { self.new.tells ≡ true
+            → Appends (W.contents self.old.writer) (W.contents self.new.writer)
             (piece.reported_text seat.name seat.life bytes.now) }
         ensures silent { self.old.tells ≡ false → self.new ≡ self.old }
     {

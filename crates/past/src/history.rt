@@ -89,7 +89,8 @@ fn list_front<D: Disk, W: Write>(alloc: Global, front: Front<D>, writer: &mut W)
     requires end { front.gate ≤ front.end }
     requires small { front.end ≤ greatest_room }
     ensures same { SameDisk front.disk (D.view result.disk) }
-    ensures listed { InModel front.disk ((payloads : List (List ℕ)) → HasGivenFront front [] payloads
+    ensures listed { InModel front.disk ((payloads : List (List ℕ)) → HasGivenFront front []
+        payloads
         → TellsList (bytes_on front.disk) (Appends (W.contents writer.old) (W.contents writer.new))
         (writer.new ≡ writer.old) result.answer) }
     ensures looks { InModel front.disk (Looks front.disk.history (D.view result.disk).history) }

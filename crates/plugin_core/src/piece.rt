@@ -74,7 +74,8 @@ impl Life {
     /// The blocks of a piece without a fault.
     fn pass(&mut self, found: Vec<Found>) -> Result<Step, OutOfMemory>
         ensures ok { IfOk result
-            (λ step. Passes (closed_among self.old.ask (outers found.items)) self.old self.new step) }
+            (λ step. Passes (closed_among self.old.ask (outers found.items)) self.old self.new
+            step) }
         ensures number { self.new.number ≡ self.old.number }
     {
         let Some(answer) = self.answer_in(found) else {
@@ -166,7 +167,10 @@ impl Life {
     ) -> Result<Option<Answered>, OutOfMemory>
         ensures answered { IfOk result (λ reported. reported
             ≡ answer_first self.old.greeted self.old.waiting prompt output) }
-        ensures kept { self.new ≡ record self.old { greeted = true; waiting = waiting_then self.old.greeted self.old.waiting } }
+        ensures kept { self.new ≡ record self.old {
+          greeted = true;
+          waiting = waiting_then self.old.greeted self.old.waiting;
+        } }
     {
         if !self.greeted {
             self.greeted = true;

@@ -49,7 +49,12 @@ pub struct Step {
 impl Step {
     /// What a piece gives that closes no answer and brings no fault.
     pub(crate) fn nothing() -> Step
-        ensures { result ≡ record { answered = None; default_input = None; send = None; ended = None } }
+        ensures { result ≡ record {
+          answered = None;
+          default_input = None;
+          send = None;
+          ended = None;
+        } }
     {
         Step {
             answered: None,

@@ -34,7 +34,8 @@ fn end_acceptance<E: Says>(
     answer: Result<Counts, CheckFault>,
     errors: &mut E,
 ) -> Ending
-    ensures { EndsChecked (saying E.contents E.tried errors.old errors.new) result (answer_of_acceptance chosen.now answer) }
+    ensures { EndsChecked (saying E.contents E.tried errors.old errors.new) result
+        (answer_of_acceptance chosen.now answer) }
 {
     match answer {
         Ok(counts) => end_in_words(Ok(are_accepted(chosen, counts)), errors),
@@ -50,8 +51,10 @@ fn accept_on<D: Close, C: Sources, P: Progress, W: Write, E: Says>(
     errors: &mut E,
 ) -> GivenBack<Ending, C, W>
     ensures { AcceptDone (accepting_by C.after C.clock C.wakes manner.now.request.now)
-        (given_disk (closable D.view D.closed) outside.disk) (calling outside.sources result.sources)
-        (streams (writing W.contents outside.output result.output) (saying E.contents E.tried errors.old errors.new)) result.ending }
+        (given_disk (closable D.view D.closed) outside.disk) (calling outside.sources
+        result.sources)
+        (streams (writing W.contents outside.output result.output)
+        (saying E.contents E.tried errors.old errors.new)) result.ending }
 {
     let Outside {
         disk,
@@ -80,9 +83,11 @@ pub fn run_accept<D: Close, C: Sources, P: Progress, W: Write, E: Says>(
     progress: &mut P,
     errors: &mut E,
 ) -> GivenBack<Ending, C, W>
-    ensures { AcceptEnds (closable D.view D.closed) (accepting_by C.after C.clock C.wakes manner.now.request.now)
+    ensures { AcceptEnds (closable D.view D.closed) (accepting_by C.after C.clock C.wakes
+        manner.now.request.now)
         given.files (calling given.sources result.sources)
-        (streams (writing W.contents given.output result.output) (saying E.contents E.tried errors.old errors.new)) result.ending }
+        (streams (writing W.contents given.output result.output)
+        (saying E.contents E.tried errors.old errors.new)) result.ending }
 {
     let Given {
         files,

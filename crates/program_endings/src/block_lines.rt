@@ -133,7 +133,8 @@ pub fn blocks<R: Read, W: Write>(
 
     // An input that is too long is reported as such, whatever else would go wrong with its text.
     ensures short { IfOk result
-        (λ whole. IfSome (R.remaining reader.old) (λ stream. length stream ≤ longest_standard_input)) }
+        (λ whole. IfSome (R.remaining reader.old) (λ stream. length stream
+        ≤ longest_standard_input)) }
     ensures output_short { IsErrOf result RunFault.Output
         → IfSome (R.remaining reader.old) (λ stream. length stream ≤ longest_standard_input) }
     ensures too_long { IsErrOf result RunFault.InputTooLong

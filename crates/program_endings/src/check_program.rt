@@ -63,7 +63,8 @@ fn is_passed(chosen: &Chosen, counts: Counts) -> bool
 
 /// Ends the program where no field has a number that is named.
 fn end_missing<E: Says>(id: u32, errors: &mut E) -> Ending
-    ensures { EndsChecked (saying E.contents E.tried errors.old errors.new) result (Err (checks.NoField id)) }
+    ensures { EndsChecked (saying E.contents E.tried errors.old errors.new) result
+        (Err (checks.NoField id)) }
 {
     let why = EvalFault::NoField(id);
     ended(1, errors.say(&NotEvaluated { why }))
@@ -111,7 +112,8 @@ fn end_report<W: Write, E: Says>(
     output: &mut W,
     errors: &mut E,
 ) -> Ending
-    ensures last { LastOfCheck format (writing W.contents output.old output.new) result.reported answer }
+    ensures last { LastOfCheck format (writing W.contents output.old output.new) result.reported
+        answer }
     ensures ends { EndsChecked (saying E.contents E.tried errors.old errors.new) result answer }
 {
     match format {
@@ -129,7 +131,8 @@ pub(crate) fn end_check<W: Write, E: Says>(
     output: &mut W,
     errors: &mut E,
 ) -> Ending
-    ensures last { LastOfCheck manner.now.request.now.format (writing W.contents output.old output.new) result.reported
+    ensures last { LastOfCheck manner.now.request.now.format (writing W.contents output.old
+        output.new) result.reported
         (answer_of_check manner.now.request.now.chosen answer) }
     ensures ends { EndsChecked (saying E.contents E.tried errors.old errors.new) result
         (answer_of_check manner.now.request.now.chosen answer) }
@@ -149,9 +152,11 @@ pub(crate) fn end_unopened<W: Write, E: Says>(
     errors: &mut E,
 ) -> CheckEnding
     ensures answer { result.answer ≡ Err (checks.Run (printed.no_files why)) }
-    ensures last { LastOfCheck manner.now.request.now.format (writing W.contents output.old output.new) result.ending.reported
+    ensures last { LastOfCheck manner.now.request.now.format (writing W.contents output.old
+        output.new) result.ending.reported
         (Err (checks.Run (printed.no_files why))) }
-    ensures ends { EndsAs (saying E.contents E.tried errors.old errors.new) result.ending (Err (printed.no_files why)) }
+    ensures ends { EndsAs (saying E.contents E.tried errors.old errors.new) result.ending
+        (Err (printed.no_files why)) }
 {
     let fault = CheckFault::Run(no_files(why));
     let ending = end_report(
@@ -175,8 +180,10 @@ fn check_on<D: Close, C: Sources, P: Progress, W: Write, E: Says>(
     errors: &mut E,
 ) -> GivenBack<CheckEnding, C, W>
     ensures { CheckDone (checking_by C.after C.clock C.wakes manner.now.request.now)
-        (given_disk (closable D.view D.closed) outside.disk) (calling outside.sources result.sources)
-        (streams (writing W.contents outside.output result.output) (saying E.contents E.tried errors.old errors.new)) result.ending }
+        (given_disk (closable D.view D.closed) outside.disk) (calling outside.sources
+        result.sources)
+        (streams (writing W.contents outside.output result.output)
+        (saying E.contents E.tried errors.old errors.new)) result.ending }
 {
     let Outside {
         disk,
@@ -210,7 +217,8 @@ pub fn run_check<D: Close, C: Sources, P: Progress, W: Write, E: Says>(
     ensures { CheckEnds (closable D.view D.closed)
         (checking_by C.after C.clock C.wakes manner.now.request.now)
         given.files (calling given.sources result.sources)
-        (streams (writing W.contents given.output result.output) (saying E.contents E.tried errors.old errors.new)) result.ending }
+        (streams (writing W.contents given.output result.output)
+        (saying E.contents E.tried errors.old errors.new)) result.ending }
 {
     let Given {
         files,

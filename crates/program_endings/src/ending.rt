@@ -39,7 +39,8 @@ pub(crate) fn answered<T: Copy>(done: Result<T, RunFault>) -> Result<bool, RunFa
 /// Ends a program by what it answered, whether all is well or its fault, which is printed on a line.
 pub fn end_program<E: Says>(answer: Result<bool, RunFault>, errors: &mut E) -> Ending
     ensures status { result.status ≡ status_of answer }
-    ensures reported { TellsFault (saying E.contents E.tried errors.old errors.new) result.reported answer }
+    ensures reported { TellsFault (saying E.contents E.tried errors.old errors.new) result.reported
+        answer }
 {
     match answer {
         Ok(true) => ended(0, true),

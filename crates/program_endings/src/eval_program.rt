@@ -92,8 +92,11 @@ fn evaluate_on<W: Stamped, D: Close, S: Sources, T: Tells + Copy, P: Programs + 
     programs: P,
     outside: Outside<D, S, W>,
 ) -> Evaluated<S, W>
-    ensures { EvaluatesTo (eval_setting setting.plan programs P.finds T.voice (source_rules S.after S.wakes S.clock) W.held) (given_disk (closable D.view D.closed) outside.disk)
-        (calling outside.sources result.sources) (writing W.contents outside.output result.output) result.whole result.answer }
+    ensures { EvaluatesTo (eval_setting setting.plan programs P.finds T.voice
+        (source_rules S.after S.wakes S.clock) W.held) (given_disk (closable D.view D.closed)
+        outside.disk)
+        (calling outside.sources result.sources) (writing W.contents outside.output result.output)
+        result.whole result.answer }
 {
     let FieldSetting { alloc, plan, tells } = setting;
     let voiced = Voiced {
@@ -122,7 +125,8 @@ fn evaluate_on<W: Stamped, D: Close, S: Sources, T: Tells + Copy, P: Programs + 
 /// Ends the program where an evaluation came to its end: where it stopped is a line.
 fn end_evaluated<E: Says>(end: EvalEnd, errors: &mut E) -> Ending
     ensures status { result.status ≡ evaluation_status (Ok end) }
-    ensures reported { TellsEval (saying E.contents E.tried errors.old errors.new) result.reported (Ok end) }
+    ensures reported { TellsEval (saying E.contents E.tried errors.old errors.new) result.reported
+        (Ok end) }
 {
     match end.stopped_at {
         None => ended(status_by(end.counts), true),
@@ -141,7 +145,8 @@ pub(crate) fn end_without<W: Write, E: Says, T: Tells>(
 ) -> Ending
     ensures last { FramedLast T.voice W.contents output.old output.new result.reported last }
     ensures status { result.status ≡ 1 }
-    ensures reported { TellsEval (saying E.contents E.tried errors.old errors.new) result.reported (Err why) }
+    ensures reported { TellsEval (saying E.contents E.tried errors.old errors.new) result.reported
+        (Err why) }
 {
     let said = tells.frame(last, output).is_ok();
     let reported = errors.say(&NotEvaluated { why });
@@ -162,7 +167,8 @@ fn tell_run_fault<W: Write, T: Tells>(why: RunFault, whole: bool, tells: &T, out
 fn end_faulted<E: Says>(why: RunFault, said: bool, errors: &mut E) -> Ending
     ensures last { result.reported ≡ true → said ≡ true }
     ensures status { result.status ≡ 1 }
-    ensures reported { TellsFault (saying E.contents E.tried errors.old errors.new) result.reported (Err why) }
+    ensures reported { TellsFault (saying E.contents E.tried errors.old errors.new) result.reported
+        (Err why) }
 {
     with_last(end_program(Err(why), errors), said)
 }
@@ -175,9 +181,11 @@ fn end_broken<W: Write, E: Says, T: Tells>(
     output: &mut W,
     errors: &mut E,
 ) -> Ending
-    ensures last { LastOfFault T.voice (streams (writing W.contents output.old output.new) (saying E.contents E.tried errors.old errors.new)) whole result (evals.Run why) }
+    ensures last { LastOfFault T.voice (streams (writing W.contents output.old output.new)
+        (saying E.contents E.tried errors.old errors.new)) whole result (evals.Run why) }
     ensures status { result.status ≡ 1 }
-    ensures reported { TellsEval (saying E.contents E.tried errors.old errors.new) result.reported (Err (evals.Run why)) }
+    ensures reported { TellsEval (saying E.contents E.tried errors.old errors.new) result.reported
+        (Err (evals.Run why)) }
 {
     let said = tell_run_fault(why, whole, tells, output);
     end_faulted(why, said, errors)
@@ -191,9 +199,11 @@ fn end_faulty<W: Write, E: Says, T: Tells>(
     output: &mut W,
     errors: &mut E,
 ) -> Ending
-    ensures last { LastOfFault T.voice (streams (writing W.contents output.old output.new) (saying E.contents E.tried errors.old errors.new)) whole result fault }
+    ensures last { LastOfFault T.voice (streams (writing W.contents output.old output.new)
+        (saying E.contents E.tried errors.old errors.new)) whole result fault }
     ensures status { result.status ≡ 1 }
-    ensures reported { TellsEval (saying E.contents E.tried errors.old errors.new) result.reported (Err fault) }
+    ensures reported { TellsEval (saying E.contents E.tried errors.old errors.new) result.reported
+        (Err fault) }
 {
     match fault {
         EvalFault::NoField(id) => end_without(
@@ -221,7 +231,8 @@ fn end_framed<W: Write, E: Says, T: Tells>(
     output: &mut W,
     errors: &mut E,
 ) -> Ending
-    ensures { LastOfEnd T.voice (streams (writing W.contents output.old output.new) (saying E.contents E.tried errors.old errors.new)) result end }
+    ensures { LastOfEnd T.voice (streams (writing W.contents output.old output.new)
+        (saying E.contents E.tried errors.old errors.new)) result end }
 {
     match tells.frame(Frame::End, output) {
         Ok(()) => end_evaluated(end, errors),
@@ -237,7 +248,8 @@ fn end_evaluation<W: Write, E: Says, T: Tells>(
     output: &mut W,
     errors: &mut E,
 ) -> Ending
-    ensures { EndsEvaluated T.voice (streams (writing W.contents output.old output.new) (saying E.contents E.tried errors.old errors.new)) whole result answer }
+    ensures { EndsEvaluated T.voice (streams (writing W.contents output.old output.new)
+        (saying E.contents E.tried errors.old errors.new)) whole result answer }
 {
     match answer {
         Ok(end) => end_framed(end, tells, output, errors),
@@ -252,8 +264,11 @@ fn end_on<W: Stamped, E: Says, D: Close, S: Sources, T: Tells + Copy, P: Program
     outside: Outside<D, S, W>,
     errors: &mut E,
 ) -> GivenBack<Ending, S, W>
-    ensures { EvaluationBegun (eval_setting setting.plan programs P.finds T.voice (source_rules S.after S.wakes S.clock) W.held) (given_disk (closable D.view D.closed) outside.disk) (calling outside.sources result.sources)
-        (streams (writing W.contents outside.output result.output) (saying E.contents E.tried errors.old errors.new)) result.ending }
+    ensures { EvaluationBegun (eval_setting setting.plan programs P.finds T.voice
+        (source_rules S.after S.wakes S.clock) W.held) (given_disk (closable D.view D.closed)
+        outside.disk) (calling outside.sources result.sources)
+        (streams (writing W.contents outside.output result.output)
+        (saying E.contents E.tried errors.old errors.new)) result.ending }
 {
     let tells = setting.tells;
     let Answered {
@@ -276,8 +291,11 @@ fn end_greeted<W: Stamped, E: Says, D: Close, S: Sources, T: Tells + Copy, P: Pr
     mut outside: Outside<D, S, W>,
     errors: &mut E,
 ) -> GivenBack<Ending, S, W>
-    ensures { EvaluationEnded (eval_setting setting.plan programs P.finds T.voice (source_rules S.after S.wakes S.clock) W.held) (given_disk (closable D.view D.closed) outside.disk) (calling outside.sources result.sources)
-        (streams (writing W.contents outside.output result.output) (saying E.contents E.tried errors.old errors.new)) result.ending }
+    ensures { EvaluationEnded (eval_setting setting.plan programs P.finds T.voice
+        (source_rules S.after S.wakes S.clock) W.held) (given_disk (closable D.view D.closed)
+        outside.disk) (calling outside.sources result.sources)
+        (streams (writing W.contents outside.output result.output)
+        (saying E.contents E.tried errors.old errors.new)) result.ending }
 {
     match setting.tells.frame(Frame::Hello, &mut outside.output) {
         Ok(()) => end_on(setting, programs, outside, errors),
@@ -314,11 +332,16 @@ pub fn run_evaluation<
     given: Given<D, S, W>,
     errors: &mut E,
 ) -> GivenBack<Ending, S, W>
-    ensures unopened { IfErr given.files (LiveUnopened T.voice (calling given.sources result.sources)
-        (streams (writing W.contents given.output result.output) (saying E.contents E.tried errors.old errors.new)) result.ending) }
+    ensures unopened { IfErr given.files (LiveUnopened T.voice
+        (calling given.sources result.sources)
+        (streams (writing W.contents given.output result.output)
+        (saying E.contents E.tried errors.old errors.new)) result.ending) }
 
-    ensures files { IfOk given.files (λ disk. EvaluationEnded (eval_setting setting.plan programs P.finds T.voice (source_rules S.after S.wakes S.clock) W.held) (given_disk (closable D.view D.closed) disk) (calling given.sources result.sources)
-        (streams (writing W.contents given.output result.output) (saying E.contents E.tried errors.old errors.new)) result.ending) }
+    ensures files { IfOk given.files (λ disk. EvaluationEnded
+        (eval_setting setting.plan programs P.finds T.voice (source_rules S.after S.wakes S.clock)
+        W.held) (given_disk (closable D.view D.closed) disk) (calling given.sources result.sources)
+        (streams (writing W.contents given.output result.output)
+        (saying E.contents E.tried errors.old errors.new)) result.ending) }
 {
     let Given {
         files,

@@ -29,7 +29,8 @@ fn export_disk<D: Close, W: Write>(
     form: &ExportForm<'_>,
     output: &mut W,
 ) -> Result<(), ExportFault>
-    ensures { ExportedFrom (given_disk (closable D.view D.closed) disk) form.now.format form.now.title.now (writing W.contents output.old output.new) result }
+    ensures { ExportedFrom (given_disk (closable D.view D.closed) disk) form.now.format
+        form.now.title.now (writing W.contents output.old output.new) result }
 {
     let Exported { disk, answer } = export(alloc, form.format, disk, form.title, output);
     disk.close();
@@ -57,7 +58,8 @@ pub fn run_export<D: Close, W: Write, E: Says>(
     errors: &mut E,
 ) -> Ending
     ensures { ExportEnds (closable D.view D.closed) files form.now.format form.now.title.now
-        (streams (writing W.contents output.old output.new) (saying E.contents E.tried errors.old errors.new)) result }
+        (streams (writing W.contents output.old output.new) (saying E.contents E.tried errors.old
+        errors.new)) result }
 {
     let answer = match files {
         Ok(disk) => export_disk(alloc, disk, form, output),

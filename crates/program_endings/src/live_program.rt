@@ -76,7 +76,8 @@ pub(crate) fn is_printed(why: RunFault) -> bool
 
 /// What a program answers after a run of lines that stopped there, if they did.
 fn answer_after(run: Result<(), RunFault>, stopped: Option<u64>) -> Result<Option<u64>, RunFault>
-    ensures { (lines : LinesAt) → stopped ≡ stopped_at lines → result ≡ meant.answer_after run lines }
+    ensures { (lines : LinesAt) → stopped ≡ stopped_at lines
+        → result ≡ meant.answer_after run lines }
 {
     match run {
         Ok(()) => Ok(stopped),
@@ -93,8 +94,10 @@ fn live_on<R: Read, W: Stamped, D: Close, S: Sources, T: Tells + Copy>(
 where
     R: Drop,
     requires { lines.held ≡ nothing_held }
-    ensures { LivesOn (live_setting setting.manner T.voice (source_rules S.after S.wakes S.clock) W.held) (R.remaining lines.reader) (given_disk (closable D.view D.closed) outside.disk)
-        (calling outside.sources result.sources) (writing W.contents outside.output result.output) result.whole result.answer }
+    ensures { LivesOn (live_setting setting.manner T.voice (source_rules S.after S.wakes S.clock)
+        W.held) (R.remaining lines.reader) (given_disk (closable D.view D.closed) outside.disk)
+        (calling outside.sources result.sources) (writing W.contents outside.output result.output)
+        result.whole result.answer }
 {
     let voiced = Voiced {
         tells: setting.tells,
@@ -126,7 +129,8 @@ fn with_end<S, W: Write, T: Tells + Copy>(
     mut output: W,
     sources: S,
 ) -> Lived<S, W>
-    ensures ended { EndsFramed T.voice (writing W.contents output result.output) result.whole stopped result.answer }
+    ensures ended { EndsFramed T.voice (writing W.contents output result.output) result.whole
+        stopped result.answer }
     ensures sources { result.sources ≡ sources }
 {
     match tells.frame(Frame::End, &mut output) {
@@ -149,7 +153,8 @@ fn with_run_fault<S, W: Write, T: Tells + Copy>(
     sources: S,
 ) -> Lived<S, W>
     ensures answer { result.answer ≡ Err why }
-    ensures ended { EndsFaulted T.voice (writing W.contents output result.output) whole result.whole why }
+    ensures ended { EndsFaulted T.voice (writing W.contents output result.output) whole result.whole
+        why }
     ensures sources { result.sources ≡ sources }
 {
     if is_printed(why) {
@@ -165,7 +170,8 @@ fn with_run_fault<S, W: Write, T: Tells + Copy>(
 
 /// Prints what stands last after a run.
 fn end_lived<S, W: Write, T: Tells + Copy>(lived: Lived<S, W>, tells: T) -> Lived<S, W>
-    ensures ended { LivedEnds T.voice (writing W.contents lived.output result.output) lived.answer lived.whole result.whole result.answer }
+    ensures ended { LivedEnds T.voice (writing W.contents lived.output result.output) lived.answer
+        lived.whole result.whole result.answer }
     ensures sources { result.sources ≡ lived.sources }
 {
     let Answered {
@@ -189,8 +195,10 @@ fn live_lines<R: Read, W: Stamped, D: Close, S: Sources, T: Tells + Copy>(
 where
     R: Drop,
     requires { lines.held ≡ nothing_held }
-    ensures { LiveBegun (live_setting setting.manner T.voice (source_rules S.after S.wakes S.clock) W.held) (R.remaining lines.reader) (given_disk (closable D.view D.closed) outside.disk)
-        (calling outside.sources result.sources) (writing W.contents outside.output result.output) result.whole result.answer }
+    ensures { LiveBegun (live_setting setting.manner T.voice (source_rules S.after S.wakes S.clock)
+        W.held) (R.remaining lines.reader) (given_disk (closable D.view D.closed) outside.disk)
+        (calling outside.sources result.sources) (writing W.contents outside.output result.output)
+        result.whole result.answer }
 {
     let tells = setting.tells;
     end_lived(live_on(setting, lines, outside), tells)
@@ -202,8 +210,10 @@ fn live_read<R: Read, W: Stamped, D: Close, S: Sources, T: Tells + Copy>(
     input: &mut R,
     outside: Outside<D, S, W>,
 ) -> Lived<S, W>
-    ensures { LiveBegun (live_setting setting.manner T.voice (source_rules S.after S.wakes S.clock) W.held) (R.remaining input.old) (given_disk (closable D.view D.closed) outside.disk)
-        (calling outside.sources result.sources) (writing W.contents outside.output result.output) result.whole result.answer }
+    ensures { LiveBegun (live_setting setting.manner T.voice (source_rules S.after S.wakes S.clock)
+        W.held) (R.remaining input.old) (given_disk (closable D.view D.closed) outside.disk)
+        (calling outside.sources result.sources) (writing W.contents outside.output result.output)
+        result.whole result.answer }
 {
     match InputLines::new(setting.alloc, input) {
         Ok(lines) => live_lines(setting, lines, outside),
@@ -225,8 +235,11 @@ fn live_framed<R: Read, W: Stamped, D: Close, S: Sources, T: Tells + Copy>(
     input: &mut R,
     mut outside: Outside<D, S, W>,
 ) -> Lived<S, W>
-    ensures { LiveAnswer (live_setting setting.manner T.voice (source_rules S.after S.wakes S.clock) W.held) (R.remaining input.old) (given_disk (closable D.view D.closed) outside.disk)
-        (calling outside.sources result.sources) (writing W.contents outside.output result.output) result.whole result.answer }
+    ensures { LiveAnswer (live_setting setting.manner T.voice
+        (source_rules S.after S.wakes S.clock) W.held) (R.remaining input.old)
+        (given_disk (closable D.view D.closed) outside.disk)
+        (calling outside.sources result.sources) (writing W.contents outside.output result.output)
+        result.whole result.answer }
 {
     match setting.tells.frame(Frame::Hello, &mut outside.output) {
         Ok(()) => live_read(setting, input, outside),
@@ -271,7 +284,8 @@ pub(crate) fn end_reported<W: Write, E: Says, T: Tells>(
 ) -> Ending
     ensures last { LastReported T.voice W.contents output.old output.new result.reported answer }
     ensures status { result.status ≡ status_of answer }
-    ensures reported { TellsFault (saying E.contents E.tried errors.old errors.new) result.reported answer }
+    ensures reported { TellsFault (saying E.contents E.tried errors.old errors.new) result.reported
+        answer }
 {
     let said = tell_last(answer, tells, output);
     with_last(end_program(answer, errors), said)
@@ -282,7 +296,8 @@ pub(crate) fn end_reported<W: Write, E: Says, T: Tells>(
 fn end_stopped<E: Says>(answer: Result<Option<u64>, RunFault>, said: bool, errors: &mut E) -> Ending
     ensures last { result.reported ≡ true → said ≡ true }
     ensures status { result.status ≡ strict_status answer }
-    ensures reported { TellsStop (saying E.contents E.tried errors.old errors.new) result.reported answer }
+    ensures reported { TellsStop (saying E.contents E.tried errors.old errors.new) result.reported
+        answer }
 {
     with_last(end_strict(answer, errors), said)
 }
@@ -294,8 +309,11 @@ pub(crate) fn end_live<R: Read, W: Stamped, E: Says, D: Close, S: Sources, T: Te
     outside: Outside<D, S, W>,
     errors: &mut E,
 ) -> GivenBack<Ending, S, W>
-    ensures { LiveEnded (live_setting setting.manner T.voice (source_rules S.after S.wakes S.clock) W.held) (R.remaining input.old) (given_disk (closable D.view D.closed) outside.disk) (calling outside.sources result.sources)
-        (streams (writing W.contents outside.output result.output) (saying E.contents E.tried errors.old errors.new)) result.ending }
+    ensures { LiveEnded (live_setting setting.manner T.voice (source_rules S.after S.wakes S.clock)
+        W.held) (R.remaining input.old) (given_disk (closable D.view D.closed) outside.disk)
+        (calling outside.sources result.sources)
+        (streams (writing W.contents outside.output result.output)
+        (saying E.contents E.tried errors.old errors.new)) result.ending }
 {
     let Answered {
         answer,
@@ -321,11 +339,16 @@ pub fn run_live<R: Read, W: Stamped, E: Says, D: Close, S: Sources, T: Tells + C
     errors: &mut E,
 ) -> GivenBack<Ending, S, W>
     // It is printed before a line is read.
-    ensures unopened { IfErr given.files (λ why. (input.new ≡ input.old) × LiveUnopened T.voice (calling given.sources result.sources)
-        (streams (writing W.contents given.output result.output) (saying E.contents E.tried errors.old errors.new)) result.ending why) }
+    ensures unopened { IfErr given.files (λ why. (input.new ≡ input.old) × LiveUnopened T.voice
+        (calling given.sources result.sources)
+        (streams (writing W.contents given.output result.output)
+        (saying E.contents E.tried errors.old errors.new)) result.ending why) }
 
-    ensures files { IfOk given.files (λ disk. LiveEnded (live_setting setting.manner T.voice (source_rules S.after S.wakes S.clock) W.held) (R.remaining input.old) (given_disk (closable D.view D.closed) disk)
-        (calling given.sources result.sources) (streams (writing W.contents given.output result.output) (saying E.contents E.tried errors.old errors.new)) result.ending) }
+    ensures files { IfOk given.files (λ disk. LiveEnded (live_setting setting.manner T.voice
+        (source_rules S.after S.wakes S.clock) W.held) (R.remaining input.old)
+        (given_disk (closable D.view D.closed) disk)
+        (calling given.sources result.sources) (streams (writing W.contents given.output
+        result.output) (saying E.contents E.tried errors.old errors.new)) result.ending) }
 {
     let Given {
         files,

@@ -65,7 +65,8 @@ pub fn run_show_past<D: Close, W: Write, E: Says>(
     errors: &mut E,
 ) -> Ending
     ensures { PastShown D.closed found
-        (streams (writing W.contents output.old output.new) (saying E.contents E.tried errors.old errors.new)) result }
+        (streams (writing W.contents output.old output.new) (saying E.contents E.tried errors.old
+        errors.new)) result }
 {
     let answer = tell_sheet(&found.sheet, output);
     found.disk.close();
@@ -82,7 +83,8 @@ pub fn run_export_past<D: Close, W: Write, E: Says>(
     errors: &mut E,
 ) -> Ending
     ensures { PastExported D.closed found form.now.format form.now.title.now
-        (streams (writing W.contents output.old output.new) (saying E.contents E.tried errors.old errors.new)) result }
+        (streams (writing W.contents output.old output.new) (saying E.contents E.tried errors.old
+        errors.new)) result }
 {
     let answer = write_in_format(alloc, form.format, form.title, &found.sheet, output);
     found.disk.close();
@@ -91,7 +93,8 @@ pub fn run_export_past<D: Close, W: Write, E: Says>(
 
 /// Lists the changes of a disk, and closes it.
 fn list_disk<D: Close, W: Write>(alloc: Global, disk: D, output: &mut W) -> Result<(), RunFault>
-    ensures { HistoryOf (given_disk (closable D.view D.closed) disk) (writing W.contents output.old output.new) result }
+    ensures { HistoryOf (given_disk (closable D.view D.closed) disk)
+        (writing W.contents output.old output.new) result }
 {
     let Listed { disk, answer } = list_changes(alloc, disk, output);
     disk.close();
@@ -107,7 +110,8 @@ pub fn run_history<D: Close, W: Write, E: Says>(
     errors: &mut E,
 ) -> Ending
     ensures { HistoryEnds (closable D.view D.closed) files
-        (streams (writing W.contents output.old output.new) (saying E.contents E.tried errors.old errors.new)) result }
+        (streams (writing W.contents output.old output.new) (saying E.contents E.tried errors.old
+        errors.new)) result }
 {
     let answer = match files {
         Ok(disk) => list_disk(alloc, disk, output),

@@ -27,7 +27,8 @@ pub(crate) fn end_create<E: Says>(why: MakeFault, errors: &mut E) -> Ending
 /// Lays an empty worksheet on a disk, closes the disk, and tells where that failed why.
 fn create_on<D: Close, E: Says>(disk: D, errors: &mut E) -> Ending
     requires { 11 ≤ (D.view disk).room }
-    ensures { CreateEnds (given_disk (closable D.view D.closed) disk) (saying E.contents E.tried errors.old errors.new) result }
+    ensures { CreateEnds (given_disk (closable D.view D.closed) disk)
+        (saying E.contents E.tried errors.old errors.new) result }
 {
     match journal::create(disk) {
         Ok(made) => {
@@ -61,7 +62,8 @@ pub fn run_create<D: Close, E: Says>(files: Result<D, MakeFault>, errors: &mut E
 
 /// Writes the worksheet of a disk, and closes the disk at the end.
 fn show_disk<D: Close, W: Write>(alloc: Global, disk: D, output: &mut W) -> Result<bool, RunFault>
-    ensures { ShownOf (given_disk (closable D.view D.closed) disk) (writing W.contents output.old output.new) result }
+    ensures { ShownOf (given_disk (closable D.view D.closed) disk)
+        (writing W.contents output.old output.new) result }
 {
     let Shown { disk, answer } = show(alloc, disk, output);
     disk.close();
@@ -77,7 +79,8 @@ pub fn run_show<D: Close, W: Write, E: Says>(
     errors: &mut E,
 ) -> Ending
     ensures { ShowEnds (closable D.view D.closed) files
-        (streams (writing W.contents output.old output.new) (saying E.contents E.tried errors.old errors.new)) result }
+        (streams (writing W.contents output.old output.new) (saying E.contents E.tried errors.old
+        errors.new)) result }
 {
     let answer = match files {
         Ok(disk) => show_disk(alloc, disk, output),

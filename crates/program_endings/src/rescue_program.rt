@@ -80,7 +80,8 @@ fn rescue_on<D: Disk, N: Close, W: Says, E: Says>(
     requires room { 11 ≤ (N.view disk).room }
     requires made { (ops : List Op) × Makes ops found.now.sheet.contents }
     ensures { RescueDone (given_disk (closable N.view N.closed) disk) found.now
-        (said_streams (saying W.contents W.tried output.old output.new) (saying E.contents E.tried errors.old errors.new)) result }
+        (said_streams (saying W.contents W.tried output.old output.new)
+        (saying E.contents E.tried errors.old errors.new)) result }
 {
     let Saved { disk, answer } = save_rescued(alloc, found, disk, output);
     disk.close();
@@ -102,8 +103,10 @@ fn rescue_to<D: Disk, N: Close, W: Says, E: Says>(
         × TellsMake (saying E.contents E.tried errors.old errors.new) result.reported why) }
 
     // What becomes of the disk, and what is said of it.
-    ensures files { IfOk files (λ disk. RescueDone (given_disk (closable N.view N.closed) disk) found.now
-        (said_streams (saying W.contents W.tried output.old output.new) (saying E.contents E.tried errors.old errors.new)) result) }
+    ensures files { IfOk files (λ disk. RescueDone (given_disk (closable N.view N.closed) disk)
+        found.now
+        (said_streams (saying W.contents W.tried output.old output.new)
+        (saying E.contents E.tried errors.old errors.new)) result) }
 {
     match files {
         Ok(disk) => rescue_on(alloc, found, disk, output, errors),
@@ -124,7 +127,8 @@ pub fn run_rescue<D: Close, N: Close, W: Says, E: Says>(
     requires room { IfOk files (λ disk. 11 ≤ (N.view disk).room) }
     requires made { (ops : List Op) × Makes ops found.sheet.contents }
     ensures { RescueEnds D.closed (closable N.view N.closed) files found
-        (said_streams (saying W.contents W.tried output.old output.new) (saying E.contents E.tried errors.old errors.new)) result }
+        (said_streams (saying W.contents W.tried output.old output.new)
+        (saying E.contents E.tried errors.old errors.new)) result }
 {
     let ending = rescue_to(alloc, &found, files, output, errors);
     found.disk.close();

@@ -63,8 +63,12 @@ fn run_by_lines<W: Stamped, E: Says, D: Close, S: Sources>(
     outside: Outside<D, S, W>,
     errors: &mut E,
 ) -> GivenBack<Ending, S, W>
-    ensures { LiveEnded (live_setting (line_by_line None strict) in_words (source_rules S.after S.wakes S.clock) W.held) (Some script.now) (given_disk (closable D.view D.closed) outside.disk) (calling outside.sources result.sources)
-        (streams (writing W.contents outside.output result.output) (saying E.contents E.tried errors.old errors.new)) result.ending }
+    ensures { LiveEnded (live_setting (line_by_line None strict) in_words
+        (source_rules S.after S.wakes S.clock) W.held) (Some script.now)
+        (given_disk (closable D.view D.closed) outside.disk) (calling outside.sources
+        result.sources)
+        (streams (writing W.contents outside.output result.output)
+        (saying E.contents E.tried errors.old errors.new)) result.ending }
 {
     let setting = LineSetting {
         alloc,
@@ -87,8 +91,12 @@ fn run_as_script<W: Stamped, E: Says, D: Close, S: Sources>(
     outside: Outside<D, S, W>,
     errors: &mut E,
 ) -> GivenBack<Ending, S, W>
-    ensures { RunsWhole (live_setting (line_by_line None strict) in_words (source_rules S.after S.wakes S.clock) W.held) script.now (given_disk (closable D.view D.closed) outside.disk) (calling outside.sources result.sources)
-        (streams (writing W.contents outside.output result.output) (saying E.contents E.tried errors.old errors.new)) result.ending }
+    ensures { RunsWhole (live_setting (line_by_line None strict) in_words
+        (source_rules S.after S.wakes S.clock) W.held) script.now
+        (given_disk (closable D.view D.closed) outside.disk) (calling outside.sources
+        result.sources)
+        (streams (writing W.contents outside.output result.output)
+        (saying E.contents E.tried errors.old errors.new)) result.ending }
 {
     let Ran { outside, answer } = run_read(alloc, script, strict, outside);
     let Outside {
@@ -112,8 +120,12 @@ fn run_whole<W: Stamped, E: Says, D: Close, S: Sources>(
     outside: Outside<D, S, W>,
     errors: &mut E,
 ) -> GivenBack<Ending, S, W>
-    ensures { RunsRead (live_setting (line_by_line None strict) in_words (source_rules S.after S.wakes S.clock) W.held) script.now (given_disk (closable D.view D.closed) outside.disk) (calling outside.sources result.sources)
-        (streams (writing W.contents outside.output result.output) (saying E.contents E.tried errors.old errors.new)) result.ending }
+    ensures { RunsRead (live_setting (line_by_line None strict) in_words
+        (source_rules S.after S.wakes S.clock) W.held) script.now
+        (given_disk (closable D.view D.closed) outside.disk) (calling outside.sources
+        result.sources)
+        (streams (writing W.contents outside.output result.output)
+        (saying E.contents E.tried errors.old errors.new)) result.ending }
 {
     if has_form(alloc, script) {
         run_by_lines(alloc, strict, script, outside, errors)
@@ -130,8 +142,12 @@ fn run_on<R: Read, W: Stamped, E: Says, D: Close, S: Sources>(
     outside: Outside<D, S, W>,
     errors: &mut E,
 ) -> GivenBack<Ending, S, W>
-    ensures { ScriptEnds (live_setting (line_by_line None strict) in_words (source_rules S.after S.wakes S.clock) W.held) (R.remaining input.old) (given_disk (closable D.view D.closed) outside.disk) (calling outside.sources result.sources)
-        (streams (writing W.contents outside.output result.output) (saying E.contents E.tried errors.old errors.new)) result.ending }
+    ensures { ScriptEnds (live_setting (line_by_line None strict) in_words
+        (source_rules S.after S.wakes S.clock) W.held) (R.remaining input.old)
+        (given_disk (closable D.view D.closed) outside.disk) (calling outside.sources
+        result.sources)
+        (streams (writing W.contents outside.output result.output)
+        (saying E.contents E.tried errors.old errors.new)) result.ending }
 {
     match read_input(alloc, input) {
         Ok(whole) => run_whole(alloc, strict, whole.as_slice(), outside, errors),
@@ -166,11 +182,16 @@ pub fn run_script<R: Read, W: Stamped, E: Says, D: Close, S: Sources>(
     errors: &mut E,
 ) -> GivenBack<Ending, S, W>
     // Why there are no files is printed; the input isn't read.
-    ensures unopened { IfErr given.files (λ why. (input.new ≡ input.old) × EndsUnopened (calling given.sources result.sources)
-        (streams (writing W.contents given.output result.output) (saying E.contents E.tried errors.old errors.new)) result.ending why) }
+    ensures unopened { IfErr given.files (λ why. (input.new ≡ input.old) × EndsUnopened
+        (calling given.sources result.sources)
+        (streams (writing W.contents given.output result.output)
+        (saying E.contents E.tried errors.old errors.new)) result.ending why) }
 
-    ensures files { IfOk given.files (λ disk. ScriptEnds (live_setting (line_by_line None strict) in_words (source_rules S.after S.wakes S.clock) W.held) (R.remaining input.old) (given_disk (closable D.view D.closed) disk) (calling given.sources result.sources)
-        (streams (writing W.contents given.output result.output) (saying E.contents E.tried errors.old errors.new)) result.ending) }
+    ensures files { IfOk given.files (λ disk. ScriptEnds (live_setting (line_by_line None strict)
+        in_words (source_rules S.after S.wakes S.clock) W.held) (R.remaining input.old)
+        (given_disk (closable D.view D.closed) disk) (calling given.sources result.sources)
+        (streams (writing W.contents given.output result.output)
+        (saying E.contents E.tried errors.old errors.new)) result.ending) }
 {
     let Given {
         files,

@@ -117,7 +117,8 @@ impl Total {
     pub fn with(self, end: CheckEnding) -> Total
         requires bounded { IsBounded self }
         requires few { self.worksheets < 2 ^ 63 }
-        ensures total { (ends : List CheckEnding) → self ≡ total_of ends → result ≡ total_of (ends ++ end ∷ []) }
+        ensures total { (ends : List CheckEnding) → self ≡ total_of ends
+            → result ≡ total_of (ends ++ end ∷ []) }
         ensures number { result.worksheets ≡ self.worksheets + 1 }
         ensures bounded { IsBounded result }
     {
@@ -170,7 +171,8 @@ pub fn is_unwritten(end: CheckEnding) -> bool
 /// and 127, is `\x` and two hexadecimal digits, so it is one line.
 #[tactic(auto, using(crate::proofs::Lines::steps))]
 pub fn tell_worksheet<W: Write>(path: &str, output: &mut W) -> Result<(), WriteFault>
-    ensures { OnOk result (Appends (W.contents output.old) (W.contents output.new) (worksheet_line path.now)) }
+    ensures { OnOk result (Appends (W.contents output.old) (W.contents output.new)
+        (worksheet_line path.now)) }
 {
     output.write_all(b"worksheet ").map_err(|_| WriteFault)?;
     write_line(path.as_bytes(), output)?;
@@ -181,7 +183,8 @@ pub fn tell_worksheet<W: Write>(path: &str, output: &mut W) -> Result<(), WriteF
 /// Ends the check of a worksheet above whose report no line could be written: nothing of it was done.
 pub fn end_unwritten<E: Says>(errors: &mut E) -> CheckEnding
     ensures answer { result.answer ≡ Err (checks.Run fault.Output) }
-    ensures ends { EndsAs (saying E.contents E.tried errors.old errors.new) result.ending (Err fault.Output) }
+    ensures ends { EndsAs (saying E.contents E.tried errors.old errors.new) result.ending
+        (Err fault.Output) }
 {
     let ending = end_program(Err(RunFault::Output), errors);
     CheckEnding {
@@ -257,7 +260,8 @@ fn write_total<W: Write>(total: Total, out: &mut W) -> Result<(), WriteFault>
 
 /// The end of a check whose total can't be written.
 fn end_unsummed<E: Says>(total: Total, errors: &mut E) -> Ending
-    ensures { (last : Ending) × EndsAs (saying E.contents E.tried errors.old errors.new) last (Err fault.Output)
+    ensures { (last : Ending) × EndsAs (saying E.contents E.tried errors.old errors.new) last
+        (Err fault.Output)
         × (result ≡ record { status = 1; reported = total.reported && last.reported }) }
 {
     let last = end_program(Err(RunFault::Output), errors);
@@ -268,7 +272,8 @@ fn end_unsummed<E: Says>(total: Total, errors: &mut E) -> Ending
 /// it is the fault `Output`, with its line on `errors`.
 pub fn end_total<W: Write, E: Says>(total: Total, output: &mut W, errors: &mut E) -> Ending
     ensures { TotalEnds total
-        (streams (writing W.contents output.old output.new) (saying E.contents E.tried errors.old errors.new)) result }
+        (streams (writing W.contents output.old output.new) (saying E.contents E.tried errors.old
+        errors.new)) result }
 {
     match write_total(total, output) {
         Ok(()) => total.ending(),

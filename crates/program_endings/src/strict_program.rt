@@ -11,7 +11,8 @@ use offline_programs::{RunFault, Says};
 /// Ends the program by where a strict run stopped, which is printed on a line, or by its fault.
 pub(crate) fn end_strict<E: Says>(answer: Result<Option<u64>, RunFault>, errors: &mut E) -> Ending
     ensures status { result.status ≡ strict_status answer }
-    ensures reported { TellsStop (saying E.contents E.tried errors.old errors.new) result.reported answer }
+    ensures reported { TellsStop (saying E.contents E.tried errors.old errors.new) result.reported
+        answer }
 {
     match answer {
         Ok(None) => ended(0, true),

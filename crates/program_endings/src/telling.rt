@@ -36,7 +36,8 @@ fn no_place(why: HoldFault) -> RunFault
 /// Ends a program that can't hold the place of a closed stream: the fault is printed on a line.
 pub fn end_unheld<E: Says>(why: HoldFault, errors: &mut E) -> Ending
     ensures status { result.status ≡ 1 }
-    ensures reported { TellsFault (saying E.contents E.tried errors.old errors.new) result.reported (Err (printed.no_place why)) }
+    ensures reported { TellsFault (saying E.contents E.tried errors.old errors.new) result.reported
+        (Err (printed.no_place why)) }
 {
     end_program(Err(no_place(why)), errors)
 }

@@ -24,8 +24,10 @@ fn check_together_on<D: Close, C: Sources, P: Progress, W: Write, E: Says>(
 ) -> GivenBack<CheckEnding, C, W>
     ensures { TogetherDone
         (together_by C.after C.clock C.wakes beside.now.jobs beside.now.manner.request.now)
-        (given_disk (closable D.view D.closed) outside.disk) (calling outside.sources result.sources)
-        (streams (writing W.contents outside.output result.output) (saying E.contents E.tried errors.old errors.new)) result.ending }
+        (given_disk (closable D.view D.closed) outside.disk) (calling outside.sources
+        result.sources)
+        (streams (writing W.contents outside.output result.output)
+        (saying E.contents E.tried errors.old errors.new)) result.ending }
 {
     let Outside {
         disk,
@@ -59,7 +61,8 @@ pub fn run_check_together<D: Close, C: Sources, P: Progress, W: Write, E: Says>(
     ensures { TogetherEnds (closable D.view D.closed)
         (together_by C.after C.clock C.wakes beside.now.jobs beside.now.manner.request.now)
         given.files (calling given.sources result.sources)
-        (streams (writing W.contents given.output result.output) (saying E.contents E.tried errors.old errors.new)) result.ending }
+        (streams (writing W.contents given.output result.output)
+        (saying E.contents E.tried errors.old errors.new)) result.ending }
 {
     let Given {
         files,

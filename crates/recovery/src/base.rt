@@ -83,7 +83,8 @@ impl<D: Disk> Base<D> {
         ensures answers { AgainAnswers D.view self result.0 (S.payloads source.now) result.1 }
         ensures any_moment { InModel (disk_of D.view self)
             ((payloads : List (List ℕ)) → KeepsIn self payloads
-            → LeavesOnly (EitherStands payloads (S.payloads source.now)) (disk_of D.view self).history
+            → LeavesOnly (EitherStands payloads (S.payloads source.now))
+            (disk_of D.view self).history
             (disk_of D.view result.0).history) }
     {
         match self {
@@ -164,7 +165,8 @@ impl<D: Disk> Base<D> {
         ensures closed { is_closed result ≡ is_closed self }
         ensures owed { owed_to result ≡ owed_to self }
         ensures gathers { is_closed self ≡ false → gathers result ≡ true }
-        ensures keeps { (payloads : List (List ℕ)) → KeepsIn self payloads → KeepsIn result payloads }
+        ensures keeps { (payloads : List (List ℕ)) → KeepsIn self payloads
+            → KeepsIn result payloads }
         ensures owing { MayOweIn self → (is_closed self ≡ false → KeepsSome D.view self)
             → MayOweIn result }
     {
@@ -204,7 +206,8 @@ impl<D: Disk> Base<D> {
         ensures gathers { gathers result ≡ false }
         ensures closed { is_closed result ≡ is_closed self }
         ensures owing { MayOweIn result }
-        ensures keeps { (payloads : List (List ℕ)) → RealKeeps self payloads → KeepsIn result payloads }
+        ensures keeps { (payloads : List (List ℕ)) → RealKeeps self payloads
+            → KeepsIn result payloads }
     {
         match self {
             Base::Gathering(journal, _) => Base::Open(journal),

@@ -61,7 +61,8 @@ pub(crate) fn write_group<D: Disk>(
     ensures same { SameDisk journal.disk (real_of D.view result.0) }
     ensures flushed { OnOk result.1 ((owed_to result.0 ≡ [])
         × (disk_of D.view result.0 ≡ real_of D.view result.0)) }
-    ensures ok { OnOk result.1 ((is_closed result.0 ≡ false) × (end_in result.0 ≡ journal.end + length (records group.payloads))
+    ensures ok { OnOk result.1 ((is_closed result.0 ≡ false) × (end_in result.0 ≡ journal.end
+        + length (records group.payloads))
         × ((real_of D.view result.0).faults ≡ journal.disk.faults)) }
     ensures closed { OnErr result.1 ((is_closed result.0 ≡ true)
         × Rises journal.disk.faults (real_of D.view result.0).faults) }

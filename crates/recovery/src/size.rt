@@ -137,7 +137,8 @@ pub(crate) fn new_len(after: u32, field: &Field) -> u64
 pub(crate) fn answer_len(id: u32, answer: &Answer) -> u64
     requires { HasCode (op.Answer id answer.now.prompt answer.now.output) }
     ensures { result
-        ≡ min (length (code_of (op.Answer id answer.now.prompt answer.now.output))) longest_reported }
+        ≡ min (length (code_of (op.Answer id answer.now.prompt answer.now.output)))
+        longest_reported }
 {
     with_node(
         7 + answer.prompt.as_slice().len() as u64,

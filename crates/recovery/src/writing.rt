@@ -19,7 +19,8 @@ use worksheet::Op;
 fn put_short(bytes: &[u8], out: &mut Vec<u8>) -> Result<(), OutOfMemory>
     requires { IsShort bytes.now }
     ensures code { OnOk result (out.new.items ≡ out.old.items ++ short bytes.now) }
-    ensures room { OnErr result (vec_capacity out.old < vec_len out.old + length (short bytes.now)) }
+    ensures room { OnErr result (vec_capacity out.old < vec_len out.old + length
+        (short bytes.now)) }
     ensures capacity { vec_capacity out.old ≤ vec_capacity out.new }
 {
     out.push(bytes.len() as u8)?;
@@ -43,7 +44,8 @@ fn put_long(bytes: &[u8], out: &mut Vec<u8>) -> Result<(), OutOfMemory>
 fn put_words(words: &[Octets], out: &mut Vec<u8>) -> Result<(), OutOfMemory>
     requires { AllByRecursion IsLong words.now }
     ensures code { OnOk result (out.new.items ≡ out.old.items ++ flat_map long words.now) }
-    ensures room { OnErr result (vec_capacity out.old < vec_len out.old + length (flat_map long words.now)) }
+    ensures room { OnErr result (vec_capacity out.old < vec_len out.old + length
+        (flat_map long words.now)) }
     ensures capacity { vec_capacity out.old ≤ vec_capacity out.new }
 {
     for word in words {
@@ -68,7 +70,8 @@ fn put_byte(byte: u8, out: &mut Vec<u8>) -> Result<(), OutOfMemory>
 #[tactic(auto, using(crate::proofs::PlainRuns::text_rules))]
 fn put_text(text: &[u8], out: &mut Vec<u8>) -> Result<(), OutOfMemory>
     ensures code { OnOk result (out.new.items ≡ out.old.items ++ flat_map escape text.now) }
-    ensures room { OnErr result (vec_capacity out.old < vec_len out.old + length (flat_map escape text.now)) }
+    ensures room { OnErr result (vec_capacity out.old < vec_len out.old + length
+        (flat_map escape text.now)) }
     ensures capacity { vec_capacity out.old ≤ vec_capacity out.new }
 {
     let mut rest = text;
@@ -87,7 +90,8 @@ fn put_text(text: &[u8], out: &mut Vec<u8>) -> Result<(), OutOfMemory>
 #[tactic(auto, using(crate::proofs::PlainRuns::node_rules))]
 fn put_node(node: &Node, out: &mut Vec<u8>) -> Result<(), OutOfMemory>
     ensures code { OnOk result (out.new.items ≡ out.old.items ++ canonical (tree_of node.now)) }
-    ensures room { OnErr result (vec_capacity out.old < vec_len out.old + length (canonical (tree_of node.now))) }
+    ensures room { OnErr result (vec_capacity out.old < vec_len out.old + length
+        (canonical (tree_of node.now))) }
     ensures capacity { vec_capacity out.old ≤ vec_capacity out.new }
 {
     out.push(2)?;
@@ -130,7 +134,8 @@ pub(crate) fn put_session(
     requires { HasCode (op.Session name.now tab words.now) }
     ensures code { OnOk result
         (out.new.items ≡ out.old.items ++ code_of (op.Session name.now tab words.now)) }
-    ensures room { OnErr result (vec_capacity out.old < vec_len out.old + length (code_of (op.Session name.now tab words.now))) }
+    ensures room { OnErr result (vec_capacity out.old < vec_len out.old + length
+        (code_of (op.Session name.now tab words.now))) }
     ensures capacity { vec_capacity out.old ≤ vec_capacity out.new }
 {
     out.push(1)?;
@@ -151,7 +156,8 @@ pub(crate) fn put_new(
     requires { HasCode (op.New after session.now input.now) }
     ensures code { OnOk result
         (out.new.items ≡ out.old.items ++ code_of (op.New after session.now input.now)) }
-    ensures room { OnErr result (vec_capacity out.old < vec_len out.old + length (code_of (op.New after session.now input.now))) }
+    ensures room { OnErr result (vec_capacity out.old < vec_len out.old + length
+        (code_of (op.New after session.now input.now))) }
     ensures capacity { vec_capacity out.old ≤ vec_capacity out.new }
 {
     out.push(2)?;
@@ -172,7 +178,8 @@ pub(crate) fn put_answer(
     ensures code { OnOk result
         (out.new.items ≡ out.old.items ++ code_of (op.Answer id prompt.now output.now)) }
     ensures right { OnOk result (is_block output.now ≡ true) }
-    ensures room { OnErr result (vec_capacity out.old < vec_len out.old + length (code_of (op.Answer id prompt.now output.now))) }
+    ensures room { OnErr result (vec_capacity out.old < vec_len out.old + length
+        (code_of (op.Answer id prompt.now output.now))) }
     ensures capacity { vec_capacity out.old ≤ vec_capacity out.new }
 {
     out.push(7)?;
@@ -184,7 +191,8 @@ pub(crate) fn put_answer(
 /// That of the op that says why a field has no answer.
 pub(crate) fn put_lost(id: u32, reason: Reason, out: &mut Vec<u8>) -> Result<(), OutOfMemory>
     ensures code { OnOk result (out.new.items ≡ out.old.items ++ code_of (op.Lost id reason)) }
-    ensures room { OnErr result (vec_capacity out.old < vec_len out.old + length (code_of (op.Lost id reason))) }
+    ensures room { OnErr result (vec_capacity out.old < vec_len out.old + length
+        (code_of (op.Lost id reason))) }
     ensures capacity { vec_capacity out.old ≤ vec_capacity out.new }
 {
     out.push(8)?;
@@ -196,7 +204,8 @@ pub(crate) fn put_lost(id: u32, reason: Reason, out: &mut Vec<u8>) -> Result<(),
 /// That of the op that names the next number.
 pub(crate) fn put_ids(next: u32, out: &mut Vec<u8>) -> Result<(), OutOfMemory>
     ensures code { OnOk result (out.new.items ≡ out.old.items ++ code_of (op.Ids next)) }
-    ensures room { OnErr result (vec_capacity out.old < vec_len out.old + length (code_of (op.Ids next))) }
+    ensures room { OnErr result (vec_capacity out.old < vec_len out.old + length
+        (code_of (op.Ids next))) }
     ensures capacity { vec_capacity out.old ≤ vec_capacity out.new }
 {
     out.push(9)?;

@@ -42,7 +42,8 @@ pub(crate) fn put_durably<L: Log>(op: u32, log: &mut L) -> Result<(), LogFault>
 /// Puts each op on the log, and reports it when it is durable.
 pub fn serve<L: Log, T: Tells>(ops: &[u32], log: &mut L, teller: &mut T) -> Result<(), ServeFault>
     ensures served { (before : List ℕ) → (L.history log.old).now ≡ all_durable before
-        → ServedInOrder T.tried (added_to before ops.now) (L.history log.new) teller.old teller.new result }
+        → ServedInOrder T.tried (added_to before ops.now) (L.history log.new) teller.old teller.new
+        result }
 {
     for op in ops {
         if put_durably(*op, log).is_err() {

@@ -37,7 +37,8 @@ pub fn serve_writing<L: Log, W: Stamps>(
     out: &mut W,
 ) -> Result<(), ServeFault>
     ensures serves { (before : List ℕ) → (L.history log.old).now ≡ all_durable before
-        → ServesByText W.held_at (added_to before ops.now) (L.history log.new) (W.contents out.old) (W.contents out.new) result }
+        → ServesByText W.held_at (added_to before ops.now) (L.history log.new) (W.contents out.old)
+        (W.contents out.new) result }
 {
     for op in ops {
         if put_durably(*op, log).is_err() {

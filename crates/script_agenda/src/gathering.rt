@@ -64,7 +64,8 @@ fn gather_one<'a>(
     lines: &mut Lines<'a>,
     edits: &mut Edits,
 ) -> Option<usize>
-    ensures some { IfSome result (λ bytes. (line : List ℕ) × (lines.old ≡ line ∷ lines.new) × (may_be_grouped strict (line_of line) ≡ true)
+    ensures some { IfSome result (λ bytes. (line : List ℕ) × (lines.old ≡ line ∷ lines.new)
+        × (may_be_grouped strict (line_of line) ≡ true)
         × (edits.new ≡ edits.old ++ line_events (line_of line))) }
     ensures none { IfNone result ((lines.new ≡ lines.old) × (edits.new ≡ edits.old)) }
     ensures more { length edits.new ≤ length edits.old + 1 }

@@ -39,7 +39,8 @@ fn answer_after(
     whole: bool,
     stopped: Option<u64>,
 ) -> Result<Option<u64>, RunFault>
-    ensures { (at : ScriptAt) → stopped ≡ stopped_line at → result ≡ meant.script_answer run whole at }
+    ensures { (at : ScriptAt) → stopped ≡ stopped_line at
+        → result ≡ meant.script_answer run whole at }
 {
     if !whole {
         return Err(RunFault::Output);
@@ -61,8 +62,10 @@ pub fn run_read<W: Stamped, D: Disk, S: Sources>(
     given: Outside<D, S, W>,
 ) -> Ran<D, S, W>
     ensures same { SameDisk (D.view given.disk) (D.view result.outside.disk) }
-    ensures ran { RanScript (running_rules (source_rules S.after S.wakes S.clock) W.held) strict script.now (outside (D.view given.disk) given.sources (W.contents given.output))
-        (outside (D.view result.outside.disk) result.outside.sources (W.contents result.outside.output)) result.answer }
+    ensures ran { RanScript (running_rules (source_rules S.after S.wakes S.clock) W.held) strict
+        script.now (outside (D.view given.disk) given.sources (W.contents given.output))
+        (outside (D.view result.outside.disk) result.outside.sources
+        (W.contents result.outside.output)) result.answer }
 {
     let Outside {
         disk,
@@ -113,8 +116,11 @@ pub fn run<R: Read, W: Stamped, D: Disk, S: Sources>(
     given: Outside<D, S, W>,
 ) -> Ran<D, S, W>
     ensures same { SameDisk (D.view given.disk) (D.view result.outside.disk) }
-    ensures ran { RanRead (running_rules (source_rules S.after S.wakes S.clock) W.held) (R.remaining reader.old) (outside (D.view given.disk) given.sources (W.contents given.output))
-        (outside (D.view result.outside.disk) result.outside.sources (W.contents result.outside.output)) result.answer }
+    ensures ran { RanRead (running_rules (source_rules S.after S.wakes S.clock) W.held)
+        (R.remaining reader.old) (outside (D.view given.disk) given.sources
+        (W.contents given.output))
+        (outside (D.view result.outside.disk) result.outside.sources
+        (W.contents result.outside.output)) result.answer }
 {
     match read_input(alloc, reader) {
         Ok(script) => run_read(alloc, script.as_slice(), false, given),

@@ -37,7 +37,8 @@ impl<'a> ByScript<'a> {
     fn next_in_round(&mut self) -> Option<Seat>
         ensures some { IfSome result (λ seat. self.old.round.items ≡ seat ∷ self.new.round.items) }
         ensures none { IfNone result ((self.old.round.items ≡ []) × (self.new.round.items ≡ [])) }
-        ensures stands { script_stand self.new ≡ with_round (script_stand self.old) self.new.round.items }
+        ensures stands { script_stand self.new
+            ≡ with_round (script_stand self.old) self.new.round.items }
     {
         if self.round.is_empty() {
             return None;
@@ -82,7 +83,8 @@ impl<'a> ByScript<'a> {
         host: &Host<D>,
         rounds: u32,
     ) -> Result<Turn, RunFault>
-        ensures { (w : World) → IsHost host.now w → WaitSays (script_stand self.old) w rounds result (script_stand self.new) }
+        ensures { (w : World) → IsHost host.now w
+            → WaitSays (script_stand self.old) w rounds result (script_stand self.new) }
     {
         match self.next_in_round() {
             Some(seat) => Ok(ask_life(rounds, seat)),
@@ -107,7 +109,8 @@ impl<'a> ByScript<'a> {
 
     /// Takes this line by itself, which was read.
     fn take_line(&mut self, alloc: Global, line: &[u8]) -> Result<Turn, RunFault>
-        ensures { TakesOneLine (line_of line.now) (script_stand self.old) result (script_stand self.new) }
+        ensures { TakesOneLine (line_of line.now) (script_stand self.old) result
+            (script_stand self.new) }
     {
         match read_line(alloc, line) {
             Ok(line) => Ok(self.ask(line)),
@@ -121,7 +124,8 @@ impl<'a> ByScript<'a> {
 
     /// Takes the next line by itself.
     fn take_next(&mut self, alloc: Global) -> Result<Turn, RunFault>
-        ensures { (self.old.strict && self.old.wrong) ≡ false → SaysOfLines (script_stand self.old) result (script_stand self.new) }
+        ensures { (self.old.strict && self.old.wrong) ≡ false
+            → SaysOfLines (script_stand self.old) result (script_stand self.new) }
     {
         let Some(line) = peek(&self.lines) else {
             return Ok(Turn::End);
@@ -137,7 +141,8 @@ impl<'a> ByScript<'a> {
 
     /// Takes the next lines as one group, or the next one by itself.
     fn take_lines(&mut self, alloc: Global) -> Result<Turn, RunFault>
-        ensures { (self.old.strict && self.old.wrong) ≡ false → SaysOfLines (script_stand self.old) result (script_stand self.new) }
+        ensures { (self.old.strict && self.old.wrong) ≡ false
+            → SaysOfLines (script_stand self.old) result (script_stand self.new) }
     {
         let before = self.number;
         let edits = gather(alloc, self.strict, &mut self.lines, &mut self.number);
@@ -159,7 +164,8 @@ impl<'a> ByScript<'a> {
         alloc: Global,
         host: &Host<D>,
     ) -> Result<Turn, RunFault>
-        ensures { (w : World) → IsHost host.now w → ScriptSays (script_stand self.old) w 0 result (script_stand self.new) }
+        ensures { (w : World) → IsHost host.now w
+            → ScriptSays (script_stand self.old) w 0 result (script_stand self.new) }
     {
         if let Some(rounds) = self.wait {
             return self.next_life(alloc, host, rounds);

@@ -227,7 +227,8 @@ impl<D: Disk> BufferedHost<D> {
         ensures closes { OnErr result (self.new.closed ≡ true) }
         ensures faulty { IsErrOf result HostFault.Disk
             → Rises self.old.store.real.faults self.new.store.real.faults }
-        ensures other { IfErr result (λ fault. (fault ≡ HostFault.Closed) ⊎ (fault ≡ HostFault.Disk)) }
+        ensures other { IfErr result (λ fault. (fault ≡ HostFault.Closed)
+            ⊎ (fault ≡ HostFault.Disk)) }
         ensures still { self.old.store.closed ≡ true → self.new.store ≡ self.old.store }
 
         // A crash at any moment of the call leaves the worksheet that the disk had before it, or this one.

@@ -80,7 +80,8 @@ pub(crate) fn ended(running: Running, reason: Reason, killed: bool) -> Outcome
     requires { running.life.over ≡ false }
     ensures { (past : List LifeEvent) (blocks : List Outer) → LifeHasPast running.life past blocks
         → result ≡ ends
-        (record { name = running.name; number = running.life.number; past = past; blocks = blocks }) reason killed }
+        (record { name = running.name; number = running.life.number; past = past; blocks = blocks })
+        reason killed }
 {
     let Running { name, life } = running;
     let number = life.number();

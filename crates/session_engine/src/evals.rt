@@ -161,7 +161,8 @@ impl<D: Disk> Engine<D> {
             × (self.new.begun ≡ self.old.begun)) }
         ensures store { self.new.store ≡ self.old.store }
         ensures back { OnOk result
-            (CanGoBack name self.old.lives.items self.old.begun self.new.lives.items self.new.begun) }
+            (CanGoBack name self.old.lives.items self.old.begun self.new.lives.items
+            self.new.begun) }
     {
         let words = self.words_for(name)?;
         let (number, sent) = ask(self.alloc, &mut self.lives, self.begun + 1, name, item)?;
@@ -242,7 +243,8 @@ impl<D: Disk> Engine<D> {
         ensures at_once { IsErrOf result HostFault.Disk → self.old.store.gathers ≡ false }
         ensures ok { (w : World) → StandsAt self.old w
             → lives_are_spent w.begun (life_of w name) ≡ false → HasField (sheet_in w) name line
-            → IfOk result (Evaluated w (record { session = name; id = id; line = line }) self.old self.new) }
+            → IfOk result (Evaluated w (record { session = name; id = id; line = line }) self.old
+            self.new) }
         ensures contents { OnErr result (self.new.store.sheet.contents
             ≡ self.old.store.sheet.contents) }
         ensures numbers { (other : List ℕ)

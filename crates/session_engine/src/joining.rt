@@ -43,7 +43,8 @@ pub trait Joins {
     fn join<D: Disk>(&mut self, alloc: Global, host: &BufferedHost<D>) -> Joined
         ensures few { length result.events.items ≤ most_joined }
         ensures none { NoCheckpoints result.events.items }
-        ensures joins { (w : World) → IsHost host.now w → joins self.old w result.first result.events.items self.new };
+        ensures joins { (w : World) → IsHost host.now w
+            → joins self.old w result.first result.events.items self.new };
 }
 
 /// What events gave that were taken as one group with those that joined them.
@@ -88,7 +89,8 @@ impl<D: Disk> Host<D> {
             (HaltsJoined (asking J.joins joins.old joins.new) w events.items self.old self.new) }
         ensures few { IfOk result (λ joint. (length joint.outcomes.items ≤ length events.items)
             × (length joint.later.items ≤ most_joined)) }
-        ensures closed { self.old.closed ≡ true → result ≡ Err (JoinFault.Stopped HostFault.Closed) }
+        ensures closed { self.old.closed ≡ true
+            → result ≡ Err (JoinFault.Stopped HostFault.Closed) }
         ensures still { self.old.closed ≡ true → (self.new ≡ self.old) × (joins.new ≡ joins.old) }
     {
         self.inner.play_joining(events, joins)
@@ -129,7 +131,8 @@ impl<D: Disk> BufferedHost<D> {
             (HaltsJoined (asking J.joins joins.old joins.new) w events.items self.old self.new) }
         ensures few { IfOk result (λ joint. (length joint.outcomes.items ≤ length events.items)
             × (length joint.later.items ≤ most_joined)) }
-        ensures closed { self.old.closed ≡ true → result ≡ Err (JoinFault.Stopped HostFault.Closed) }
+        ensures closed { self.old.closed ≡ true
+            → result ≡ Err (JoinFault.Stopped HostFault.Closed) }
         ensures still { self.old.closed ≡ true → (self.new ≡ self.old) × (joins.new ≡ joins.old) }
         ensures written { self.old.store.gathers ≡ false → self.new.store.gathers ≡ false }
     {
@@ -203,7 +206,8 @@ impl<D: Disk> BufferedHost<D> {
         ensures halts { (w : World) → IsHost self.old w → IfErr result
             (StopsJoining (asking J.joins joins.old joins.new) w events.items self.new) }
         ensures gathers { GathersOn self.old.store self.new.store }
-        ensures at_once { IfErr result (λ fault. fault ≡ HostFault.Disk → self.old.store.gathers ≡ false) }
+        ensures at_once { IfErr result (λ fault. fault ≡ HostFault.Disk → self.old.store.gathers
+            ≡ false) }
         ensures few { IfOk result (λ joint. (length joint.outcomes.items ≤ length events.items)
             × (length joint.later.items ≤ most_joined)) }
     {

@@ -61,7 +61,8 @@ impl<D: Disk> Host<D> {
             × TookEach w events.items self.old outcomes.items v self.new) }
         ensures moments { (w : World) → IsHost self.old w
             → IfOk result
-            (λ outcomes. Moments w events.items outcomes.items self.old.store.disk self.new.store.disk) }
+            (λ outcomes. Moments w events.items outcomes.items self.old.store.disk
+            self.new.store.disk) }
         ensures halts { (w : World) → IsHost self.old w
             → IfErr result (Halts w events.items self.old self.new) }
         ensures closed { self.old.closed ≡ true → PlaysClosed events.items result }
@@ -113,7 +114,8 @@ impl<D: Disk> BufferedHost<D> {
             × TookEach w events.items self.old outcomes.items v self.new) }
         ensures moments { (w : World) → IsHost self.old w
             → IfOk result
-            (λ outcomes. Moments w events.items outcomes.items self.old.store.disk self.new.store.disk) }
+            (λ outcomes. Moments w events.items outcomes.items self.old.store.disk
+            self.new.store.disk) }
         ensures halts { (w : World) → IsHost self.old w
             → IfErr result (Halts w events.items self.old self.new) }
         ensures closed { self.old.closed ≡ true → PlaysClosed events.items result }
@@ -174,7 +176,8 @@ impl<D: Disk> BufferedHost<D> {
     fn play_flushed(&mut self, events: Vec<Event>, up_to: bool) -> Result<Vec<Outcome>, GroupFault>
         ensures same { SameDisk self.old.store.real self.new.store.real }
         ensures took { (w : World) → IsHost self.old w
-            → IfOk result (λ outcomes. TookBy up_to w events.items outcomes.items self.old self.new) }
+            → IfOk result (λ outcomes. TookBy up_to w events.items outcomes.items self.old
+            self.new) }
         ensures halts { (w : World) → IsHost self.old w
             → IfErr result (HaltsBy up_to w events.items self.old self.new) }
         ensures closed { self.old.closed ≡ true → PlaysGroupClosed result }
@@ -210,7 +213,8 @@ impl<D: Disk> BufferedHost<D> {
         requires open { self.old.store.closed ≡ false }
         ensures same { SameDisk self.old.store.real self.new.store.real }
         ensures took { (w : World) → IsHost self.old w
-            → IfOk result (λ outcomes. TookBy up_to w events.items outcomes.items self.old self.new) }
+            → IfOk result (λ outcomes. TookBy up_to w events.items outcomes.items self.old
+            self.new) }
         ensures halts { (w : World) → IsHost self.old w
             → IfErr result (HaltsBy up_to w events.items self.old self.new) }
         ensures written { self.new.store.gathers ≡ false }
@@ -267,7 +271,8 @@ impl<D: Disk> BufferedHost<D> {
             → OnOk result (PlayedBy up_to w events.items outcomes.new.items self.new) }
         ensures halts { (w : World) → IsHost self.old w
             → IfErr result (StoppedAt w events.items self.old self.new outcomes.new.items) }
-        ensures right { up_to ≡ true → OnErr result (list_any group.is_refusal outcomes.new.items ≡ false) }
+        ensures right { up_to ≡ true → OnErr result (list_any group.is_refusal outcomes.new.items
+            ≡ false) }
         ensures gathers { NoCheckpoints events.items → GathersOn self.old.store self.new.store }
         ensures at_once { NoCheckpoints events.items
             → IfErr result (λ fault. fault ≡ HostFault.Disk → self.old.store.gathers ≡ false) }

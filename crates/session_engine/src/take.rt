@@ -43,8 +43,10 @@ impl<D: Disk> Engine<D> {
     fn command(&mut self, command: Command) -> Result<Outcome, HostFault>
         requires { Works self.old }
         ensures same { SameDisk self.old.store.disk self.new.store.disk }
-        ensures gathers { GathersUnlessCheckpoint (event_of.Command command) self.old.store self.new.store }
-        ensures at_once { IsErrOf result HostFault.Disk → is_checkpoint (event_of.Command command) ≡ false
+        ensures gathers { GathersUnlessCheckpoint (event_of.Command command) self.old.store
+            self.new.store }
+        ensures at_once { IsErrOf result HostFault.Disk
+            → is_checkpoint (event_of.Command command) ≡ false
             → self.old.store.gathers ≡ false }
         ensures written { self.old.store.gathers ≡ false → self.new.store.gathers ≡ false }
         ensures took { (w : World) → StandsAt self.old w
@@ -74,7 +76,8 @@ impl<D: Disk> Engine<D> {
         ensures took { (w : World) → StandsAt self.old w
             → IfOk result (TookAt w (event_of.Command (command_of.Stop name)) self.old self.new) }
         ensures failed { (w : World) → StandsAt self.old w
-            → IfErr result (FailedAt w (event_of.Command (command_of.Stop name)) self.old self.new) }
+            → IfErr result (FailedAt w (event_of.Command (command_of.Stop name)) self.old
+            self.new) }
     {
         let name = match self.store.sheet().session(name.as_slice()) {
             Some(session) => session.name,

@@ -57,7 +57,8 @@ fn accept_field<D: Disk, S: Disk, C: Sources, W: Write, P: Progress>(
         → Stores ops more disk store.old → IfOk result (λ after. (wrote : FieldWrote
         (accepting_by C.after C.clock C.wakes turn.now.manner.request.now)
         turn.now.field.now (at w driver.old.sources driver.old.host.store.disk)
-        (left driver.new.host driver.new.sources (W.contents writer.old) (W.contents writer.new)) turn.now.counts after)
+        (left driver.new.host driver.new.sources (W.contents writer.old) (W.contents writer.new))
+        turn.now.counts after)
         × PutAll (storing ops more disk store.new) (accepted wrote.0)) }
     ensures bound { IfOk result (λ after. total after ≤ total turn.now.counts + 1) }
     ensures errors { IfOk result (λ after. after.errors ≤ total after) }
@@ -65,9 +66,11 @@ fn accept_field<D: Disk, S: Disk, C: Sources, W: Write, P: Progress>(
         → Stores ops more disk store.old → IfErr result (FieldBroke
         (accepting_by C.after C.clock C.wakes turn.now.manner.request.now)
         turn.now.field.now (at w driver.old.sources driver.old.host.store.disk)
-        (left driver.new.host driver.new.sources (W.contents writer.old) (W.contents writer.new)) (storing ops more disk store.new)) }
+        (left driver.new.host driver.new.sources (W.contents writer.old) (W.contents writer.new))
+        (storing ops more disk store.new)) }
     ensures shown { IfOk result (λ after.
-        FieldShown (display formats.Accepting P.shows) turn.now.all turn.now.counts after progress.old progress.new) }
+        FieldShown (display formats.Accepting P.shows) turn.now.all turn.now.counts after
+        progress.old progress.new) }
     ensures left { IfErr result (λ _. LeavesLine P.shows progress.old progress.new) }
 {
     if !turn.manner.request.chosen.has(turn.field) {
@@ -95,18 +98,22 @@ fn accept_fields<D: Disk, S: Disk, C: Sources, W: Write, P: Progress>(
         → Stores ops [] disk store.old → IfOk result (FieldsTook
         (accepting_by C.after C.clock C.wakes suite.now.manner.request.now)
         suite.now.sheet.now.contents.fields (at w driver.old.sources driver.old.host.store.disk)
-        (left driver.new.host driver.new.sources (W.contents writer.old) (W.contents writer.new)) (storing ops [] disk store.new)) }
+        (left driver.new.host driver.new.sources (W.contents writer.old) (W.contents writer.new))
+        (storing ops [] disk store.new)) }
     ensures err { (w : World) → IsHost driver.old.host w → (ops : List Op) → (disk : DiskView)
         → Stores ops [] disk store.old → IfErr result (FieldsBroke
         (accepting_by C.after C.clock C.wakes suite.now.manner.request.now)
         suite.now.sheet.now.contents.fields (at w driver.old.sources driver.old.host.store.disk)
-        (left driver.new.host driver.new.sources (W.contents writer.old) (W.contents writer.new)) (storing ops [] disk store.new)) }
+        (left driver.new.host driver.new.sources (W.contents writer.old) (W.contents writer.new))
+        (storing ops [] disk store.new)) }
     ensures shown { IfOk result (λ counts.
         FieldsShow (display formats.Accepting P.shows)
-        (checked_count suite.now.manner.request.now.chosen suite.now.sheet.now.contents.fields) progress.old counts progress.new) }
+        (checked_count suite.now.manner.request.now.chosen suite.now.sheet.now.contents.fields)
+        progress.old counts progress.new) }
     ensures left { IfErr result (λ _.
         FieldsLeft (display formats.Accepting P.shows)
-        (checked_count suite.now.manner.request.now.chosen suite.now.sheet.now.contents.fields) progress.old progress.new) }
+        (checked_count suite.now.manner.request.now.chosen suite.now.sheet.now.contents.fields)
+        progress.old progress.new) }
 {
     let all = count_checked(&suite.manner.request.chosen, suite.sheet);
     let mut counts = Counts::none();
@@ -142,14 +149,17 @@ fn accept_and_stop<D: Disk, S: Disk, C: Sources, W: Write, P: Progress>(
         → Stores ops [] disk store.old → IfOk result (λ counts. (ended : FieldsEnded
         (accepting_by C.after C.clock C.wakes suite.now.manner.request.now)
         suite.now.sheet.now.contents.fields w driver.old.host.store.disk
-        (passage driver.old.sources driver.new.sources (W.contents writer.old) (W.contents writer.new)) counts)
+        (passage driver.old.sources driver.new.sources (W.contents writer.old)
+        (W.contents writer.new)) counts)
         × PutAll (storing ops [] disk store.new) (accepted ended.0)) }
-    ensures err { (w : World) → IsHost driver.old.host w → IsCopy suite.now.sheet.now.contents w driver.old.host.store.disk
+    ensures err { (w : World) → IsHost driver.old.host w
+        → IsCopy suite.now.sheet.now.contents w driver.old.host.store.disk
         → (ops : List Op) → (disk : DiskView) → Stores ops [] disk store.old
         → IfErr result (AcceptLeft
         (accepting_by C.after C.clock C.wakes suite.now.manner.request.now)
         suite.now.sheet.now.contents
-        (passage driver.old.sources driver.new.sources (W.contents writer.old) (W.contents writer.new)) (filing ops disk store.new.disk)) }
+        (passage driver.old.sources driver.new.sources (W.contents writer.old)
+        (W.contents writer.new)) (filing ops disk store.new.disk)) }
     ensures shown { SheetShows (display formats.Accepting P.shows)
         (checked_count suite.now.manner.request.now.chosen suite.now.sheet.now.contents.fields)
         progress.old progress.new result }
@@ -179,7 +189,8 @@ fn accepted_on_copy<S: Disk, C: Sources, W: Write, P: Progress>(
         → IfSome result.answer (OnCopy
         (accepting_by C.after C.clock C.wakes suite.now.manner.request.now)
         suite.now.sheet.now.contents
-        (passage sources result.sources (W.contents writer.old) (W.contents writer.new)) (storing ops [] disk store.new)) }
+        (passage sources result.sources (W.contents writer.old) (W.contents writer.new))
+        (storing ops [] disk store.new)) }
     ensures shown { IfSome result.answer (λ counted. SheetShows (display formats.Accepting P.shows)
         (checked_count suite.now.manner.request.now.chosen suite.now.sheet.now.contents.fields)
         progress.old progress.new counted) }
@@ -217,7 +228,8 @@ fn accepted_on_copies<S: Disk, C: Sources, W: Write, P: Progress>(
         → IfSome result.answer (OnCopy
         (accepting_by C.after C.clock C.wakes manner.now.request.now)
         store.old.sheet.contents
-        (passage sources result.sources (W.contents writer.old) (W.contents writer.new)) (storing ops [] disk store.new)) }
+        (passage sources result.sources (W.contents writer.old) (W.contents writer.new))
+        (storing ops [] disk store.new)) }
     ensures shown { IfSome result.answer (λ counted. SheetShows (display formats.Accepting P.shows)
         (checked_count manner.now.request.now.chosen store.old.sheet.contents.fields)
         progress.old progress.new counted) }
@@ -254,7 +266,8 @@ pub(crate) fn accept_sheet<S: Disk, C: Sources, W: Write, P: Progress>(
         (accepting_by C.after C.clock C.wakes manner.now.request.now)
         store.old.sheet.contents
         (passage sources result.sources (W.contents writer.old) (W.contents writer.new))
-        ((writer.new ≡ writer.old) × (result.sources ≡ sources)) (filing ops disk store.new.disk) result.answer }
+        ((writer.new ≡ writer.old) × (result.sources ≡ sources))
+        (filing ops disk store.new.disk) result.answer }
     ensures shown { SheetShows (display formats.Accepting P.shows)
         (checked_count manner.now.request.now.chosen store.old.sheet.contents.fields)
         progress.old progress.new result.answer }
@@ -291,7 +304,8 @@ pub fn check_accepting<D: Disk, C: Sources, W: Write, P: Progress>(
         (passage sources result.sources (W.contents writer.old) (W.contents writer.new))
         ((writer.new ≡ writer.old) × (result.sources ≡ sources)) result.answer }
 
-    ensures shown { CheckShows (display formats.Accepting P.shows) manner.now.request.now.chosen (D.view disk)
+    ensures shown { CheckShows (display formats.Accepting P.shows) manner.now.request.now.chosen
+        (D.view disk)
         progress.old progress.new result.answer }
 
     // That the disk can't be read is reported only where it failed.

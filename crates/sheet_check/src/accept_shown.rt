@@ -219,12 +219,14 @@ pub(crate) fn accept_shown<D: Disk, S: Disk, C: Sources, W: Write, P: Progress>(
         → Stores ops more disk store.old → IfOk result (ShownTook
         (accepting_by C.after C.clock C.wakes turn.now.manner.request.now)
         (question 0 turn.now.field.now) (at w driver.old.sources driver.old.host.store.disk)
-        (left driver.new.host driver.new.sources (W.contents writer.old) (W.contents writer.new)) (storing ops more disk store.new)) }
+        (left driver.new.host driver.new.sources (W.contents writer.old) (W.contents writer.new))
+        (storing ops more disk store.new)) }
     ensures err { (w : World) → IsHost driver.old.host w → (ops more : List Op) → (disk : DiskView)
         → Stores ops more disk store.old → IfErr result (FieldBroke
         (accepting_by C.after C.clock C.wakes turn.now.manner.request.now)
         turn.now.field.now (at w driver.old.sources driver.old.host.store.disk)
-        (left driver.new.host driver.new.sources (W.contents writer.old) (W.contents writer.new)) (storing ops more disk store.new)) }
+        (left driver.new.host driver.new.sources (W.contents writer.old) (W.contents writer.new))
+        (storing ops more disk store.new)) }
     ensures room { IfOk result (λ j.
         MakesRoom formats.Accepting P.shows j.verdict progress.old progress.new) }
     ensures left { IfErr result (λ _. LeavesLine P.shows progress.old progress.new) }

@@ -50,7 +50,8 @@ fn check_shown<D: Disk, C: Sources, W: Write, P: Progress>(
     requires few { total turn.now.counts < 2 ^ 31 }
     ensures ok { (w : World) → IsHost driver.old.host w → IfOk result (ShownWrote
         (checking_by C.after C.clock C.wakes turn.now.manner.request.now)
-        (question (total turn.now.counts + 1) turn.now.field.now) (at w driver.old.sources driver.old.host.store.disk)
+        (question (total turn.now.counts + 1) turn.now.field.now)
+        (at w driver.old.sources driver.old.host.store.disk)
         (left driver.new.host driver.new.sources (W.contents writer.old) (W.contents writer.new))) }
     ensures err { (w : World) → IsHost driver.old.host w → IfErr result (FieldFailed
         (checking_by C.after C.clock C.wakes turn.now.manner.request.now)
@@ -85,7 +86,8 @@ fn check_field<D: Disk, C: Sources, W: Write, P: Progress>(
     ensures ok { (w : World) → IsHost driver.old.host w → IfOk result (FieldWrote
         (checking_by C.after C.clock C.wakes turn.now.manner.request.now)
         turn.now.field.now (at w driver.old.sources driver.old.host.store.disk)
-        (left driver.new.host driver.new.sources (W.contents writer.old) (W.contents writer.new)) turn.now.counts) }
+        (left driver.new.host driver.new.sources (W.contents writer.old) (W.contents writer.new))
+        turn.now.counts) }
     ensures bound { IfOk result (λ after. total after ≤ total turn.now.counts + 1) }
     ensures errors { IfOk result (λ after. after.errors ≤ total after) }
     ensures err { (w : World) → IsHost driver.old.host w → IfErr result (FieldFailed
@@ -93,7 +95,8 @@ fn check_field<D: Disk, C: Sources, W: Write, P: Progress>(
         turn.now.field.now (at w driver.old.sources driver.old.host.store.disk)
         (left driver.new.host driver.new.sources (W.contents writer.old) (W.contents writer.new))) }
     ensures shown { IfOk result (λ after.
-        FieldShown (display turn.now.manner.request.now.format P.shows) turn.now.all turn.now.counts after progress.old progress.new) }
+        FieldShown (display turn.now.manner.request.now.format P.shows) turn.now.all turn.now.counts
+        after progress.old progress.new) }
     ensures left { IfErr result (λ _. LeavesLine P.shows progress.old progress.new) }
 {
     if !turn.manner.request.chosen.has(turn.field) {
@@ -133,10 +136,12 @@ fn check_fields<D: Disk, C: Sources, W: Write, P: Progress>(
         (left driver.new.host driver.new.sources (W.contents writer.old) (W.contents writer.new))) }
     ensures shown { IfOk result (λ counts.
         FieldsShow (display manner.now.request.now.format P.shows)
-        (checked_count manner.now.request.now.chosen sheet.now.contents.fields) progress.old counts progress.new) }
+        (checked_count manner.now.request.now.chosen sheet.now.contents.fields) progress.old counts
+        progress.new) }
     ensures left { IfErr result (λ _.
         FieldsLeft (display manner.now.request.now.format P.shows)
-        (checked_count manner.now.request.now.chosen sheet.now.contents.fields) progress.old progress.new) }
+        (checked_count manner.now.request.now.chosen sheet.now.contents.fields) progress.old
+        progress.new) }
 {
     let all = count_checked(&manner.request.chosen, sheet);
     if let Err(fault) = tell_opening(manner.request.format, writer) {
@@ -171,11 +176,13 @@ fn check_and_stop<D: Disk, C: Sources, W: Write, P: Progress>(
     ensures ok { (w : World) → IsHost driver.old.host w → IfOk result (FieldsEnded
         (checking_by C.after C.clock C.wakes manner.now.request.now)
         sheet.now.contents.fields w driver.old.host.store.disk
-        (passage driver.old.sources driver.new.sources (W.contents writer.old) (W.contents writer.new))) }
+        (passage driver.old.sources driver.new.sources (W.contents writer.old)
+        (W.contents writer.new))) }
     ensures err { (w : World) → IsHost driver.old.host w → IfErr result (FieldsStopped
         (checking_by C.after C.clock C.wakes manner.now.request.now)
         sheet.now.contents.fields w driver.old.host.store.disk
-        (passage driver.old.sources driver.new.sources (W.contents writer.old) (W.contents writer.new))) }
+        (passage driver.old.sources driver.new.sources (W.contents writer.old)
+        (W.contents writer.new))) }
     ensures shown { SheetShows (display manner.now.request.now.format P.shows)
         (checked_count manner.now.request.now.chosen sheet.now.contents.fields)
         progress.old progress.new result }
@@ -202,7 +209,8 @@ fn checked_on_copy<C: Sources, W: Write, P: Progress>(
         (checking_by C.after C.clock C.wakes manner.now.request.now)
         sheet.now.contents
         (passage sources result.sources (W.contents writer.old) (W.contents writer.new)) counted) }
-    ensures shown { IfSome result.answer (λ counted. SheetShows (display manner.now.request.now.format P.shows)
+    ensures shown { IfSome result.answer (λ counted. SheetShows
+        (display manner.now.request.now.format P.shows)
         (checked_count manner.now.request.now.chosen sheet.now.contents.fields)
         progress.old progress.new counted) }
 {
@@ -231,7 +239,8 @@ pub(crate) fn check_sheet<C: Sources, W: Write, P: Progress>(
     requires { (ops : List Op) × Makes ops sheet.now.contents }
     ensures checked { SheetAnswer
         (checking_by C.after C.clock C.wakes manner.now.request.now)
-        sheet.now.contents (passage sources result.sources (W.contents writer.old) (W.contents writer.new))
+        sheet.now.contents (passage sources result.sources (W.contents writer.old)
+        (W.contents writer.new))
         ((writer.new ≡ writer.old) × (result.sources ≡ sources)) result.answer }
     ensures shown { SheetShows (display manner.now.request.now.format P.shows)
         (checked_count manner.now.request.now.chosen sheet.now.contents.fields)
@@ -285,11 +294,13 @@ pub fn check<D: Disk, C: Sources, W: Write, P: Progress>(
 ) -> Checked<D, C>
     ensures checked { CheckAnswer
         (checking_by C.after C.clock C.wakes manner.now.request.now)
-        (D.view disk) (passage sources result.sources (W.contents writer.old) (W.contents writer.new))
+        (D.view disk) (passage sources result.sources (W.contents writer.old)
+        (W.contents writer.new))
         ((writer.new ≡ writer.old) × (result.sources ≡ sources)) result.answer }
     ensures read { OnlyRead (D.view disk) (D.view result.disk) }
 
-    ensures shown { CheckShows (display manner.now.request.now.format P.shows) manner.now.request.now.chosen (D.view disk)
+    ensures shown { CheckShows (display manner.now.request.now.format P.shows)
+        manner.now.request.now.chosen (D.view disk)
         progress.old progress.new result.answer }
 
     // That the disk failed is reported only where it did.

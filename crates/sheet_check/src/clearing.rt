@@ -19,7 +19,8 @@ use worksheet::{Op, Sheet};
 /// Clears the field with this number, where the worksheet has one. Whether that was done.
 fn clear_field<D: Disk>(store: &mut Store<D>, id: u32) -> bool
     ensures { result ≡ true → store.new.sheet.contents
-        ≡ together.cleared_if (together.refusal_of store.old.sheet.contents id) store.old.sheet.contents id }
+        ≡ together.cleared_if (together.refusal_of store.old.sheet.contents id)
+        store.old.sheet.contents id }
 {
     worksheet::laws::sheet_after();
     let clear = Op::Clear { id };
@@ -89,7 +90,8 @@ pub(crate) fn open_cleared(
 ) -> Option<Host<MemoryDisk>>
     requires { (ops : List Op) × Makes ops sheet.now.contents }
     ensures { IfSome result (λ host. (w : World) × IsHost host w
-        × IsCopy (together.cleared chosen.now sheet.now.contents.fields sheet.now.contents) w host.store.disk) }
+        × IsCopy (together.cleared chosen.now sheet.now.contents.fields sheet.now.contents) w
+        host.store.disk) }
 {
     let Some(mut store) = store_copy(alloc, sheet) else {
         return None;
@@ -117,7 +119,8 @@ pub(crate) fn checked_ids(
     chosen: &Chosen,
     sheet: &Sheet,
 ) -> Result<Vec<u32>, AllocError>
-    ensures { IfOk result (λ ids. ids.items ≡ together.checked_ids chosen.now sheet.now.contents.fields) }
+    ensures { IfOk result (λ ids. ids.items ≡ together.checked_ids chosen.now
+        sheet.now.contents.fields) }
 {
     let mut ids = Vec::new(alloc);
     let mut fields = sheet.fields();

@@ -27,8 +27,10 @@ pub(crate) fn tell_counts<W: Write, P: Progress>(
     progress: &mut P,
     writer: &mut W,
 ) -> Result<Counts, RunFault>
-    ensures counts { CountsWritten format (W.contents writer.old) (W.contents writer.new) answer result }
-    ensures none { IfNone answer ((writer.new ≡ writer.old) × P.shows progress.old sight.Nothing progress.new) }
+    ensures counts { CountsWritten format (W.contents writer.old)
+        (W.contents writer.new) answer result }
+    ensures none { IfNone answer ((writer.new ≡ writer.old) × P.shows progress.old sight.Nothing
+        progress.new) }
     ensures some { IfSome answer (λ _. progress.new ≡ progress.old) }
 {
     match answer {

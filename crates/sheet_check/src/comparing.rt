@@ -33,13 +33,15 @@ fn compare_field<D: Disk, C: Sources, W: Write, P: Progress>(
     requires few { total turn.now.counts < 2 ^ 31 }
     requires errors { turn.now.counts.errors ≤ total turn.now.counts }
     ensures ok { (w : World) → IsHost driver.now.host w → IfOk result (FieldReported
-        (comparing turn.now.manner.request.now.chosen turn.now.manner.request.now.format w driver.now.sink.kept) turn.now.field.now
+        (comparing turn.now.manner.request.now.chosen turn.now.manner.request.now.format w
+        driver.now.sink.kept) turn.now.field.now
         (W.contents writer.old) (W.contents writer.new) turn.now.counts) }
     ensures bound { IfOk result (λ after. total after ≤ total turn.now.counts + 1) }
     ensures errors { IfOk result (λ after. after.errors ≤ total after) }
     ensures err { IfErr result (Withheld (W.contents writer.old) (W.contents writer.new)) }
     ensures shown { IfOk result (λ after.
-        FieldShown (display turn.now.manner.request.now.format P.shows) turn.now.all turn.now.counts after progress.old progress.new) }
+        FieldShown (display turn.now.manner.request.now.format P.shows) turn.now.all turn.now.counts
+        after progress.old progress.new) }
     ensures left { IfErr result (λ _. LeavesLine P.shows progress.old progress.new) }
 {
     if !turn.manner.request.chosen.has(turn.field) {
@@ -67,17 +69,21 @@ pub(crate) fn compare_fields<D: Disk, C: Sources, W: Write, P: Progress>(
 ) -> Result<Counts, RunFault>
     requires { length sheet.now.contents.fields < 2 ^ 31 }
     ensures ok { (w : World) → IsHost driver.now.host w → IfOk result (FieldsReported
-        (comparing manner.now.request.now.chosen manner.now.request.now.format w driver.now.sink.kept) sheet.now.contents.fields
+        (comparing manner.now.request.now.chosen manner.now.request.now.format w
+        driver.now.sink.kept) sheet.now.contents.fields
         (W.contents writer.old) (W.contents writer.new)) }
     ensures err { (w : World) → IsHost driver.now.host w → IfErr result (ReportBroke
-        (comparing manner.now.request.now.chosen manner.now.request.now.format w driver.now.sink.kept) sheet.now.contents.fields
+        (comparing manner.now.request.now.chosen manner.now.request.now.format w
+        driver.now.sink.kept) sheet.now.contents.fields
         (W.contents writer.old) (W.contents writer.new)) }
     ensures shown { IfOk result (λ counts.
         FieldsShow (display manner.now.request.now.format P.shows)
-        (checked_count manner.now.request.now.chosen sheet.now.contents.fields) progress.old counts progress.new) }
+        (checked_count manner.now.request.now.chosen sheet.now.contents.fields) progress.old counts
+        progress.new) }
     ensures left { IfErr result (λ _.
         FieldsLeft (display manner.now.request.now.format P.shows)
-        (checked_count manner.now.request.now.chosen sheet.now.contents.fields) progress.old progress.new) }
+        (checked_count manner.now.request.now.chosen sheet.now.contents.fields) progress.old
+        progress.new) }
 {
     let all = count_checked(&manner.request.chosen, sheet);
     if let Err(fault) = tell_opening(manner.request.format, writer) {

@@ -87,11 +87,16 @@ pub(crate) fn drive_plan<D: Disk, C: Sources>(
     driver: &mut CopyDriver<D, C>,
     plan: Plan,
 ) -> Result<(), RunFault>
-    ensures ok { (w : World) (limit : Option ℕ) → IsHost driver.old.host w → IfOk result (λ done. (t : World)
-        × DrivenToEnd (way C.after C.clock C.wakes limit) plan (at w driver.old.sources driver.old.host.store.disk)
-        driver.new.sink.kept (at t driver.new.sources driver.new.host.store.disk) × IsHost driver.new.host t) }
-    ensures err { (w : World) (limit : Option ℕ) → IsHost driver.old.host w → IfErr result (DrivenUpTo
-        (way C.after C.clock C.wakes limit) plan (at w driver.old.sources driver.old.host.store.disk)
+    ensures ok { (w : World) (limit : Option ℕ) → IsHost driver.old.host w
+        → IfOk result (λ done. (t : World)
+        × DrivenToEnd (way C.after C.clock C.wakes limit) plan
+        (at w driver.old.sources driver.old.host.store.disk)
+        driver.new.sink.kept (at t driver.new.sources driver.new.host.store.disk)
+        × IsHost driver.new.host t) }
+    ensures err { (w : World) (limit : Option ℕ) → IsHost driver.old.host w
+        → IfErr result (DrivenUpTo
+        (way C.after C.clock C.wakes limit) plan (at w driver.old.sources
+        driver.old.host.store.disk)
         driver.new.host driver.new.sources) }
 {
     driver.sink = no_marks(driver.alloc);

@@ -49,8 +49,10 @@ fn comes(marks: &[Mark], id: u32) -> bool
 
 /// Whether an answer came to the field with this number; a fault where there was no memory for its line.
 fn remembered(marks: &[Mark], id: u32) -> Result<bool, RunFault>
-    ensures ok { IfOk result (λ came. (came ≡ comes_by marks.now id) × (marked.lacked_memory marks.now ≡ false)) }
-    ensures err { IfErr result (λ why. (why ≡ RunFault.OutOfMemory) × (marked.lacked_memory marks.now ≡ true)) }
+    ensures ok { IfOk result (λ came. (came ≡ comes_by marks.now id)
+        × (marked.lacked_memory marks.now ≡ false)) }
+    ensures err { IfErr result (λ why. (why ≡ RunFault.OutOfMemory)
+        × (marked.lacked_memory marks.now ≡ true)) }
 {
     if lacked_memory(marks) {
         return Err(RunFault::OutOfMemory);
@@ -113,7 +115,8 @@ fn evaluate_alone<D: Disk, C: Sources>(
 ) -> Result<bool, RunFault>
     ensures ok { (w : World) → IsHost driver.old.host w → IfOk result (λ came. CameRemembered
         (way C.after C.clock C.wakes limit) id (at w driver.old.sources driver.old.host.store.disk)
-        driver.new.host driver.new.sources driver.new.sink.kept × (came ≡ comes_by driver.new.sink.kept id)) }
+        driver.new.host driver.new.sources driver.new.sink.kept
+        × (came ≡ comes_by driver.new.sink.kept id)) }
     ensures err { (w : World) → IsHost driver.old.host w → IfErr result (EvaluationBroke
         (way C.after C.clock C.wakes limit) id (at w driver.old.sources driver.old.host.store.disk)
         driver.new.host driver.new.sources) }
@@ -134,11 +137,14 @@ pub(crate) fn evaluate<D: Disk, C: Sources>(
     field: &Field,
 ) -> Result<Came, RunFault>
     ensures ok { (w : World) → IsHost driver.old.host w → IfOk result (λ came. (t : World)
-        × Evaluated (way C.after C.clock C.wakes limit) field.now (at w driver.old.sources driver.old.host.store.disk)
-        (came_if came.is_there (shown_in t field.now.id)) came.took (at t driver.new.sources driver.new.host.store.disk)
+        × Evaluated (way C.after C.clock C.wakes limit) field.now
+        (at w driver.old.sources driver.old.host.store.disk)
+        (came_if came.is_there (shown_in t field.now.id)) came.took
+        (at t driver.new.sources driver.new.host.store.disk)
         × IsHost driver.new.host t) }
     ensures err { (w : World) → IsHost driver.old.host w → IfErr result (EvaluationBroke
-        (way C.after C.clock C.wakes limit) field.now.id (at w driver.old.sources driver.old.host.store.disk)
+        (way C.after C.clock C.wakes limit) field.now.id (at w driver.old.sources
+        driver.old.host.store.disk)
         driver.new.host driver.new.sources) }
 {
     let begun = driver.sources.now();

@@ -85,7 +85,8 @@ impl Marks {
     fn keep_lines(&mut self, outcomes: &[Outcome]) -> Result<(), RunFault>
         ensures ok { OnOk result (self.new.kept ≡ self.old.kept ++ line_marks outcomes.now) }
         ensures err { IfErr result (λ why. why ≡ RunFault.OutOfMemory) }
-        ensures cut { IfErr result (λ why. KeptFront self.old.kept self.new.kept (line_marks outcomes.now)) }
+        ensures cut { IfErr result (λ why. KeptFront self.old.kept self.new.kept
+            (line_marks outcomes.now)) }
     {
         for outcome in outcomes {
             if let Err(fault) = self.keep_reply(&outcome.reply) {

@@ -120,16 +120,19 @@ pub(crate) fn check_named<C: Sources, W: Write, P: Progress>(
     writer: &mut W,
 ) -> Gave<Result<Counts, CheckFault>, C>
     requires { (ops : List Op) × Makes ops sheet.now.contents }
-    ensures checked { ByNames (missing_named manner.now.request.now.chosen sheet.now.contents.fields)
+    ensures checked { ByNames (missing_named manner.now.request.now.chosen
+        sheet.now.contents.fields)
         ((writer.new ≡ writer.old) × (result.sources ≡ sources))
         (SheetAnswer
         (checking_by C.after C.clock C.wakes manner.now.request.now)
-        sheet.now.contents (passage sources result.sources (W.contents writer.old) (W.contents writer.new))
+        sheet.now.contents (passage sources result.sources (W.contents writer.old)
+        (W.contents writer.new))
         ((writer.new ≡ writer.old) × (result.sources ≡ sources))) result.answer }
     ensures shown { ByNames (missing_named manner.now.request.now.chosen sheet.now.contents.fields)
         (progress.new ≡ progress.old)
         (SheetShows (display manner.now.request.now.format P.shows)
-        (checked_count manner.now.request.now.chosen sheet.now.contents.fields) progress.old progress.new) result.answer }
+        (checked_count manner.now.request.now.chosen sheet.now.contents.fields) progress.old
+        progress.new) result.answer }
 {
     match missing_named(&manner.request.chosen, sheet) {
         Some(id) => Gave {
@@ -155,16 +158,20 @@ pub(crate) fn check_named_together<C: Sources, W: Write, P: Progress>(
     writer: &mut W,
 ) -> Gave<Result<Counts, CheckFault>, C>
     requires { (ops : List Op) × Makes ops sheet.now.contents }
-    ensures checked { ByNames (missing_named beside.now.manner.request.now.chosen sheet.now.contents.fields)
+    ensures checked { ByNames (missing_named beside.now.manner.request.now.chosen
+        sheet.now.contents.fields)
         ((writer.new ≡ writer.old) × (result.sources ≡ sources))
         (TellsBySessions
         (together_by C.after C.clock C.wakes beside.now.jobs beside.now.manner.request.now)
-        sheet.now.contents (passage sources result.sources (W.contents writer.old) (W.contents writer.new))
+        sheet.now.contents (passage sources result.sources (W.contents writer.old)
+        (W.contents writer.new))
         ((writer.new ≡ writer.old) × (result.sources ≡ sources))) result.answer }
-    ensures shown { ByNames (missing_named beside.now.manner.request.now.chosen sheet.now.contents.fields)
+    ensures shown { ByNames (missing_named beside.now.manner.request.now.chosen
+        sheet.now.contents.fields)
         (progress.new ≡ progress.old)
         (SheetShows (display beside.now.manner.request.now.format P.shows)
-        (checked_count beside.now.manner.request.now.chosen sheet.now.contents.fields) progress.old progress.new) result.answer }
+        (checked_count beside.now.manner.request.now.chosen sheet.now.contents.fields) progress.old
+        progress.new) result.answer }
 {
     match missing_named(&beside.manner.request.chosen, sheet) {
         Some(id) => Gave {
@@ -201,11 +208,14 @@ pub(crate) fn accept_named<S: Disk, C: Sources, W: Write, P: Progress>(
         (accepting_by C.after C.clock C.wakes manner.now.request.now)
         store.old.sheet.contents
         (passage sources result.sources (W.contents writer.old) (W.contents writer.new))
-        ((writer.new ≡ writer.old) × (result.sources ≡ sources)) (filing ops disk store.new.disk)) result.answer }
-    ensures shown { ByNames (missing_named manner.now.request.now.chosen store.old.sheet.contents.fields)
+        ((writer.new ≡ writer.old) × (result.sources ≡ sources)) (filing ops disk store.new.disk))
+        result.answer }
+    ensures shown { ByNames (missing_named manner.now.request.now.chosen
+        store.old.sheet.contents.fields)
         (progress.new ≡ progress.old)
         (SheetShows (display formats.Accepting P.shows)
-        (checked_count manner.now.request.now.chosen store.old.sheet.contents.fields) progress.old progress.new) result.answer }
+        (checked_count manner.now.request.now.chosen store.old.sheet.contents.fields) progress.old
+        progress.new) result.answer }
 {
     let missing = missing_named(&manner.request.chosen, store.sheet());
     match missing {

@@ -55,7 +55,8 @@ impl<W: Says> ProgressLine<W> {
 
 /// How many differ, where some do.
 fn write_differ<W: Write>(differ: u32, out: &mut W) -> io::Result<()>
-    ensures { OnOk result (Appends (W.contents out.old) (W.contents out.new) (screen.differ_part differ)) }
+    ensures { OnOk result (Appends (W.contents out.old) (W.contents out.new)
+        (screen.differ_part differ)) }
 {
     match differ {
         0 => Ok(()),
@@ -66,7 +67,8 @@ fn write_differ<W: Write>(differ: u32, out: &mut W) -> io::Result<()>
 
 /// How many were left unanswered, where some were.
 fn write_unanswered<W: Write>(unanswered: u32, out: &mut W) -> io::Result<()>
-    ensures { OnOk result (Appends (W.contents out.old) (W.contents out.new) (screen.unanswered_part unanswered)) }
+    ensures { OnOk result (Appends (W.contents out.old) (W.contents out.new)
+        (screen.unanswered_part unanswered)) }
 {
     match unanswered {
         0 => Ok(()),
@@ -76,7 +78,8 @@ fn write_unanswered<W: Write>(unanswered: u32, out: &mut W) -> io::Result<()>
 
 /// Writes a line with how far the check is, in the place of what the terminal's line shows.
 fn write_line<W: Write>(counts: Counts, all: u32, out: &mut W) -> io::Result<()>
-    ensures { OnOk result (Appends (W.contents out.old) (W.contents out.new) (screen.sight_text (sight.Line counts all))) }
+    ensures { OnOk result (Appends (W.contents out.old) (W.contents out.new)
+        (screen.sight_text (sight.Line counts all))) }
 {
     let checked = counts.total();
     write!(out, "\r{checked} of {all}")?;
@@ -87,7 +90,8 @@ fn write_line<W: Write>(counts: Counts, all: u32, out: &mut W) -> io::Result<()>
 
 /// Writes a sight.
 fn write_sight<W: Write>(sight: Sight, out: &mut W) -> io::Result<()>
-    ensures { OnOk result (Appends (W.contents out.old) (W.contents out.new) (screen.sight_text sight)) }
+    ensures { OnOk result (Appends (W.contents out.old) (W.contents out.new)
+        (screen.sight_text sight)) }
 {
     match sight {
         Sight::Line { counts, all } => write_line(counts, all, out),

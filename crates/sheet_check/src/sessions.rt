@@ -25,7 +25,8 @@ fn first_checked<'a>(chosen: &Chosen, sheet: &'a Sheet) -> Option<&'a Field>
 
 /// Whether a field of a worksheet is checked that isn't of this session.
 fn has_beside(chosen: &Chosen, session: Name, sheet: &Sheet) -> bool
-    ensures { result ≡ list_any (together.is_checked_beside chosen.now session) sheet.now.contents.fields }
+    ensures { result ≡ list_any (together.is_checked_beside chosen.now session)
+        sheet.now.contents.fields }
 {
     sheet
         .fields()

@@ -82,7 +82,8 @@ fn tell_in_its_place<W: Write, P: Progress>(
     ensures ok { OnOk result (Appends (W.contents writer.old) (W.contents writer.new)
         (case_text manner.now.request.now.format case.now.number (case_in case.now))) }
     ensures err { IfErr result (Withheld (W.contents writer.old) (W.contents writer.new)) }
-    ensures room { MakesRoom manner.now.request.now.format P.shows case.now.verdict progress.old progress.new }
+    ensures room { MakesRoom manner.now.request.now.format P.shows case.now.verdict progress.old
+        progress.new }
 {
     make_room(manner.request.format, case.verdict, progress);
     tell_case(manner.alloc, manner.request.format, case, writer)
@@ -96,11 +97,13 @@ fn tell_verdict<W: Write, P: Progress>(
     progress: &mut P,
     writer: &mut W,
 ) -> Result<Judgement, RunFault>
-    ensures ok { IfOk result (λ j. Judged manner.now.request.now.chosen tried.now.field.now answered.now.came.now j.verdict
+    ensures ok { IfOk result (λ j. Judged manner.now.request.now.chosen tried.now.field.now
+        answered.now.came.now j.verdict
         × (j.error ≡ errors.brings_error answered.now.came.now)
         × Appends (W.contents writer.old) (W.contents writer.new)
         (case_text manner.now.request.now.format tried.now.number
-        (case_of tried.now.field.now answered.now.came.now answered.now.lost j.verdict tried.now.took))) }
+        (case_of tried.now.field.now answered.now.came.now answered.now.lost j.verdict
+        tried.now.took))) }
     ensures err { IfErr result (Withheld (W.contents writer.old) (W.contents writer.new)) }
     ensures room { IfOk result (λ j.
         MakesRoom manner.now.request.now.format P.shows j.verdict progress.old progress.new) }
@@ -133,11 +136,13 @@ fn tell_shown<W: Write, P: Progress>(
     writer: &mut W,
 ) -> Result<Judgement, RunFault>
     ensures ok { IfOk result (λ j.
-        Judged manner.now.request.now.chosen tried.now.field.now (came_if tried.now.is_there now.now.answer) j.verdict
+        Judged manner.now.request.now.chosen tried.now.field.now
+        (came_if tried.now.is_there now.now.answer) j.verdict
         × (j.error ≡ errors.brings_error (came_if tried.now.is_there now.now.answer))
         × Appends (W.contents writer.old) (W.contents writer.new)
         (case_text manner.now.request.now.format tried.now.number
-        (case_of tried.now.field.now (came_if tried.now.is_there now.now.answer) now.now.lost j.verdict tried.now.took))) }
+        (case_of tried.now.field.now (came_if tried.now.is_there now.now.answer) now.now.lost
+        j.verdict tried.now.took))) }
     ensures err { IfErr result (Withheld (W.contents writer.old) (W.contents writer.new)) }
     ensures room { IfOk result (λ j.
         MakesRoom manner.now.request.now.format P.shows j.verdict progress.old progress.new) }
@@ -165,11 +170,15 @@ pub(crate) fn tell_what_came<D: Disk, W: Write, P: Progress>(
     writer: &mut W,
 ) -> Result<Judgement, RunFault>
     ensures ok { (w : World) → IsHost host.now w → IfOk result (λ j.
-        Judged manner.now.request.now.chosen tried.now.field.now (came_if tried.now.is_there (shown_in w tried.now.field.now.id)) j.verdict
-        × (j.error ≡ errors.brings_error (came_if tried.now.is_there (shown_in w tried.now.field.now.id)))
+        Judged manner.now.request.now.chosen tried.now.field.now
+        (came_if tried.now.is_there (shown_in w tried.now.field.now.id)) j.verdict
+        × (j.error ≡ errors.brings_error (came_if tried.now.is_there
+        (shown_in w tried.now.field.now.id)))
         × Appends (W.contents writer.old) (W.contents writer.new)
         (case_text manner.now.request.now.format tried.now.number
-        (case_of tried.now.field.now (came_if tried.now.is_there (shown_in w tried.now.field.now.id)) (reason_shown_in w tried.now.field.now.id) j.verdict tried.now.took))) }
+        (case_of tried.now.field.now (came_if tried.now.is_there
+        (shown_in w tried.now.field.now.id)) (reason_shown_in w tried.now.field.now.id) j.verdict
+        tried.now.took))) }
     ensures err { IfErr result (Withheld (W.contents writer.old) (W.contents writer.new)) }
     ensures room { IfOk result (λ j.
         MakesRoom manner.now.request.now.format P.shows j.verdict progress.old progress.new) }

@@ -45,10 +45,12 @@ fn evaluate_checked<D: Disk, C: Sources>(
     requires { (w : World) × IsHost driver.old.host w }
     ensures ok { (w : World) → IsHost driver.old.host w → IfOk result (λ done. CameTogether
         (together_by C.after C.clock C.wakes beside.now.jobs beside.now.manner.request.now)
-        sheet.now.contents.fields (at w driver.old.sources driver.old.host.store.disk) driver.new.host driver.new.sources driver.new.sink.kept) }
+        sheet.now.contents.fields (at w driver.old.sources driver.old.host.store.disk)
+        driver.new.host driver.new.sources driver.new.sink.kept) }
     ensures err { (w : World) → IsHost driver.old.host w → IfErr result (BrokeTogether
         (together_by C.after C.clock C.wakes beside.now.jobs beside.now.manner.request.now)
-        sheet.now.contents.fields (at w driver.old.sources driver.old.host.store.disk) driver.new.host driver.new.sources) }
+        sheet.now.contents.fields (at w driver.old.sources driver.old.host.store.disk)
+        driver.new.host driver.new.sources) }
 {
     let manner = beside.manner;
     let Ok(ids) = checked_ids(manner.alloc, &manner.request.chosen, sheet) else {
@@ -81,10 +83,12 @@ fn check_together_on<D: Disk, C: Sources, W: Write, P: Progress>(
         (left driver.new.host driver.new.sources (W.contents writer.old) (W.contents writer.new))) }
     ensures shown { IfOk result (λ counts.
         FieldsShow (display beside.now.manner.request.now.format P.shows)
-        (checked_count beside.now.manner.request.now.chosen sheet.now.contents.fields) progress.old counts progress.new) }
+        (checked_count beside.now.manner.request.now.chosen sheet.now.contents.fields) progress.old
+        counts progress.new) }
     ensures left { IfErr result (λ _.
         FieldsLeft (display beside.now.manner.request.now.format P.shows)
-        (checked_count beside.now.manner.request.now.chosen sheet.now.contents.fields) progress.old progress.new) }
+        (checked_count beside.now.manner.request.now.chosen sheet.now.contents.fields) progress.old
+        progress.new) }
 {
     match evaluate_checked(beside, sheet, driver) {
         Ok(()) => compare_fields(&beside.manner, sheet, driver, progress, writer),
@@ -103,15 +107,19 @@ fn check_together_and_stop<D: Disk, C: Sources, W: Write, P: Progress>(
     requires few { length sheet.now.contents.fields < 2 ^ 31 }
     requires stands { (w : World) × IsHost driver.old.host w }
     ensures ok { (w : World) → IsHost driver.old.host w
-        → IsCopy (cleared beside.now.manner.request.now.chosen sheet.now.contents.fields sheet.now.contents) w driver.old.host.store.disk
+        → IsCopy (cleared beside.now.manner.request.now.chosen sheet.now.contents.fields
+        sheet.now.contents) w driver.old.host.store.disk
         → IfOk result (EndedTogether
         (together_by C.after C.clock C.wakes beside.now.jobs beside.now.manner.request.now)
-        sheet.now.contents (passage driver.old.sources driver.new.sources (W.contents writer.old) (W.contents writer.new))) }
+        sheet.now.contents (passage driver.old.sources driver.new.sources (W.contents writer.old)
+        (W.contents writer.new))) }
     ensures err { (w : World) → IsHost driver.old.host w
-        → IsCopy (cleared beside.now.manner.request.now.chosen sheet.now.contents.fields sheet.now.contents) w driver.old.host.store.disk
+        → IsCopy (cleared beside.now.manner.request.now.chosen sheet.now.contents.fields
+        sheet.now.contents) w driver.old.host.store.disk
         → IfErr result (TellsTogether
         (together_by C.after C.clock C.wakes beside.now.jobs beside.now.manner.request.now)
-        sheet.now.contents (passage driver.old.sources driver.new.sources (W.contents writer.old) (W.contents writer.new)) ⊥) }
+        sheet.now.contents (passage driver.old.sources driver.new.sources (W.contents writer.old)
+        (W.contents writer.new)) ⊥) }
     ensures shown { SheetShows (display beside.now.manner.request.now.format P.shows)
         (checked_count beside.now.manner.request.now.chosen sheet.now.contents.fields)
         progress.old progress.new result }
@@ -136,8 +144,10 @@ fn together_on_copy<C: Sources, W: Write, P: Progress>(
         × (progress.new ≡ progress.old)) }
     ensures some { IfSome result.answer (OnCleared
         (together_by C.after C.clock C.wakes beside.now.jobs beside.now.manner.request.now)
-        sheet.now.contents (passage sources result.sources (W.contents writer.old) (W.contents writer.new))) }
-    ensures shown { IfSome result.answer (λ counted. SheetShows (display beside.now.manner.request.now.format P.shows)
+        sheet.now.contents (passage sources result.sources (W.contents writer.old)
+        (W.contents writer.new))) }
+    ensures shown { IfSome result.answer (λ counted. SheetShows
+        (display beside.now.manner.request.now.format P.shows)
         (checked_count beside.now.manner.request.now.chosen sheet.now.contents.fields)
         progress.old progress.new counted) }
 {
@@ -167,7 +177,8 @@ fn check_sheet_together<C: Sources, W: Write, P: Progress>(
     requires { (ops : List Op) × Makes ops sheet.now.contents }
     ensures checked { TogetherTells
         (together_by C.after C.clock C.wakes beside.now.jobs beside.now.manner.request.now)
-        sheet.now.contents (passage sources result.sources (W.contents writer.old) (W.contents writer.new))
+        sheet.now.contents (passage sources result.sources (W.contents writer.old)
+        (W.contents writer.new))
         ((writer.new ≡ writer.old) × (result.sources ≡ sources)) result.answer }
     ensures shown { SheetShows (display beside.now.manner.request.now.format P.shows)
         (checked_count beside.now.manner.request.now.chosen sheet.now.contents.fields)
@@ -193,7 +204,8 @@ pub(crate) fn check_by_sessions<C: Sources, W: Write, P: Progress>(
     requires { (ops : List Op) × Makes ops sheet.now.contents }
     ensures checked { TellsBySessions
         (together_by C.after C.clock C.wakes beside.now.jobs beside.now.manner.request.now)
-        sheet.now.contents (passage sources result.sources (W.contents writer.old) (W.contents writer.new))
+        sheet.now.contents (passage sources result.sources (W.contents writer.old)
+        (W.contents writer.new))
         ((writer.new ≡ writer.old) × (result.sources ≡ sources)) result.answer }
     ensures shown { SheetShows (display beside.now.manner.request.now.format P.shows)
         (checked_count beside.now.manner.request.now.chosen sheet.now.contents.fields)
@@ -233,11 +245,13 @@ pub fn check_together<D: Disk, C: Sources, W: Write, P: Progress>(
 ) -> Checked<D, C>
     ensures checked { TogetherAnswer
         (together_by C.after C.clock C.wakes beside.now.jobs beside.now.manner.request.now)
-        (D.view disk) (passage sources result.sources (W.contents writer.old) (W.contents writer.new))
+        (D.view disk) (passage sources result.sources (W.contents writer.old)
+        (W.contents writer.new))
         ((writer.new ≡ writer.old) × (result.sources ≡ sources)) result.answer }
     ensures read { OnlyRead (D.view disk) (D.view result.disk) }
 
-    ensures shown { CheckShows (display beside.now.manner.request.now.format P.shows) beside.now.manner.request.now.chosen (D.view disk)
+    ensures shown { CheckShows (display beside.now.manner.request.now.format P.shows)
+        beside.now.manner.request.now.chosen (D.view disk)
         progress.old progress.new result.answer }
 
     // That the disk failed is reported only where it did.

@@ -73,7 +73,8 @@ fn with_tag(before: Fence, tag: &Tag) -> Result<Fence, WriteFault>
 
 /// The fence with a block more, as a worksheet shows it.
 fn with_node(before: Fence, node: &Node) -> Result<Fence, WriteFault>
-    ensures { IfOk result (λ fence. fence ≡ scan.with_bytes before (block_text (tree_of node.now))) }
+    ensures { IfOk result (λ fence. fence ≡ scan.with_bytes before
+        (block_text (tree_of node.now))) }
 {
     let bare = is_bare_tag(&node.tag);
     let mut fence = before;

@@ -279,7 +279,8 @@ pub fn export<D: Disk, W: Write>(
     ensures without { InModel (D.view disk)
         (IsErrOf result.answer fault.NoScript → (sheet : Contents)
         × IsSheetImage sheet (bytes_on (D.view disk)) × (exports.has_text format sheet ≡ false)) }
-    ensures fault { IfErr result.answer (TellsExport format (D.view disk) (writer.new ≡ writer.old)) }
+    ensures fault { IfErr result.answer (TellsExport format (D.view disk)
+        (writer.new ≡ writer.old)) }
 
     // It changes no byte, and at every moment each image is one that a crash could leave at the start.
     ensures same { SameDisk (D.view disk) (D.view result.disk) }

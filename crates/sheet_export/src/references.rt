@@ -11,7 +11,8 @@ use std::io::Write;
 
 /// Writes a byte, a mark of HTML as its reference.
 fn write_reference<W: Write>(byte: u8, out: &mut W) -> Result<(), WriteFault>
-    ensures { OnOk result (Appends (W.contents out.old) (W.contents out.new) (page.reference byte)) }
+    ensures { OnOk result (Appends (W.contents out.old) (W.contents out.new)
+        (page.reference byte)) }
 {
     if byte == b'&' {
         return write_bytes(b"&amp;", out);

@@ -61,7 +61,8 @@ pub(crate) fn has_script(sheet: &Sheet) -> bool
 }
 
 fn write_flag<W: Write>(tab: bool, out: &mut W) -> Result<(), WriteFault>
-    ensures { OnOk result (Appends (W.contents out.old) (W.contents out.new) (script.flag_text tab)) }
+    ensures { OnOk result (Appends (W.contents out.old) (W.contents out.new)
+        (script.flag_text tab)) }
 {
     if tab {
         write_bytes(b"tab", out)

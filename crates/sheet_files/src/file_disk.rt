@@ -85,8 +85,10 @@ fn found_paths<F, N: Names<F>>(
     alloc: Global,
     path: &str,
 ) -> io::Result<(String, String)>
-    ensures found { IfOk result (λ paths. N.leads names.old path.now (string_bytes paths.0) names.new) }
-    ensures second { IfOk result (λ paths. string_bytes paths.1 ≡ second_name (string_bytes paths.0)) }
+    ensures found { IfOk result (λ paths. N.leads names.old path.now (string_bytes paths.0)
+        names.new) }
+    ensures second { IfOk result (λ paths. string_bytes paths.1 ≡ second_name
+        (string_bytes paths.0)) }
 {
     let found = names.resolve(alloc, path)?;
     let second = second_path(alloc, found.as_str())?;
@@ -105,7 +107,8 @@ impl<F: DiskFile + Drop> FileDisk<F> {
         alloc: Global,
         path: &str,
     ) -> Result<FileDisk<F>, MakeFault>
-        ensures made { IfOk result (λ disk. DiskMade N.Names path.now disk.first disk.second names.old names.new) }
+        ensures made { IfOk result (λ disk. DiskMade N.Names path.now disk.first disk.second
+            names.old names.new) }
         ensures lock { IfOk result (λ disk. disk.lock ≡ Exclusive) }
     {
         let alt = second_path(alloc, path)?;
@@ -127,7 +130,8 @@ impl<F: DiskFile + Drop> FileDisk<F> {
         alloc: Global,
         path: &str,
     ) -> Result<FileDisk<F>, FilesFault>
-        ensures opened { IfOk result (λ disk. DiskOpened N.Names path.now disk.first disk.second names.old names.new) }
+        ensures opened { IfOk result (λ disk. DiskOpened N.Names path.now disk.first disk.second
+            names.old names.new) }
         ensures lock { IfOk result (λ disk. disk.lock ≡ Exclusive) }
     {
         let (path, alt) = found_paths(names, alloc, path)?;
@@ -143,7 +147,8 @@ impl<F: DiskFile + Drop> FileDisk<F> {
         alloc: Global,
         path: &str,
     ) -> Result<FileDisk<F>, FilesFault>
-        ensures opened { IfOk result (λ disk. DiskRead N.Names path.now disk.first disk.second names.old names.new) }
+        ensures opened { IfOk result (λ disk. DiskRead N.Names path.now disk.first disk.second
+            names.old names.new) }
         ensures lock { IfOk result (λ disk. disk.lock ≡ Shared) }
     {
         let (path, alt) = found_paths(names, alloc, path)?;
@@ -186,7 +191,8 @@ impl<F: DiskFile + Drop> FileDisk<F> {
         ensures same { ⟦<Self as Disk>⟧.view self.new ≡ ⟦<Self as Disk>⟧.view self.old }
         ensures bound { IfOk result (λ len. len ≤ greatest_room) }
         ensures length { InModel (⟦<Self as Disk>⟧.view self.old)
-            (IfOk result (λ n. n ≡ length (area_of area (bytes_on (⟦<Self as Disk>⟧.view self.old))))) }
+            (IfOk result (λ n. n ≡ length (area_of area (bytes_on
+            (⟦<Self as Disk>⟧.view self.old))))) }
     {
         if self.failed {
             return Err(sync_failed());
@@ -210,9 +216,11 @@ impl<F: DiskFile + Drop> FileDisk<F> {
             ((offset ≤ length (area_of area (bytes_on (⟦<Self as Disk>⟧.view self.old))))
             × (offset + length bytes.now ≤ greatest_room)) }
 
-        ensures kept { WithoutFailure (⟦<Self as Disk>⟧.view self.old) (⟦<Self as Disk>⟧.view self.new) }
+        ensures kept { WithoutFailure (⟦<Self as Disk>⟧.view self.old)
+            (⟦<Self as Disk>⟧.view self.new) }
         ensures writes { InModel (⟦<Self as Disk>⟧.view self.old)
-            (Writes area offset bytes.now result (⟦<Self as Disk>⟧.view self.old).history (⟦<Self as Disk>⟧.view self.new).history) }
+            (Writes area offset bytes.now result (⟦<Self as Disk>⟧.view self.old).history
+            (⟦<Self as Disk>⟧.view self.new).history) }
     {
         if self.lock == Lock::Shared {
             return Err(io::Error::from(ErrorKind::PermissionDenied));
@@ -241,7 +249,8 @@ impl<F: DiskFile + Drop> FileDisk<F> {
     /// Reads bytes of an area's file.
     fn read_into(&mut self, area: Area, offset: u64, buffer: &mut [u8]) -> io::Result<()>
         requires { InModel (⟦<Self as Disk>⟧.view self.old)
-            (offset + length buffer.old ≤ length (area_of area (bytes_on (⟦<Self as Disk>⟧.view self.old)))) }
+            (offset + length buffer.old ≤ length (area_of area
+            (bytes_on (⟦<Self as Disk>⟧.view self.old)))) }
 
         ensures same { ⟦<Self as Disk>⟧.view self.new ≡ ⟦<Self as Disk>⟧.view self.old }
         ensures bytes { InModel (⟦<Self as Disk>⟧.view self.old)
@@ -262,9 +271,11 @@ impl<F: DiskFile + Drop> FileDisk<F> {
 
     /// Flushes an area's file to the disk. After a sync that failed no other is believed.
     fn sync_area(&mut self, area: Area) -> io::Result<()>
-        ensures kept { WithoutFailure (⟦<Self as Disk>⟧.view self.old) (⟦<Self as Disk>⟧.view self.new) }
+        ensures kept { WithoutFailure (⟦<Self as Disk>⟧.view self.old)
+            (⟦<Self as Disk>⟧.view self.new) }
         ensures syncs { InModel (⟦<Self as Disk>⟧.view self.old)
-            (Syncs area result (⟦<Self as Disk>⟧.view self.old).history (⟦<Self as Disk>⟧.view self.new).history) }
+            (Syncs area result (⟦<Self as Disk>⟧.view self.old).history
+            (⟦<Self as Disk>⟧.view self.new).history) }
     {
         let moment = self.moment;
         if self.failed || moment == u64::MAX {
@@ -291,8 +302,10 @@ impl<F: DiskFile + Drop> FileDisk<F> {
 
     /// What a call answers that succeeded or not, where each failure is counted.
     fn answer<T: Drop>(&mut self, called: io::Result<T>) -> Result<T, DiskFault>
-        ensures called { Called result (⟦<Self as Disk>⟧.view self.old) (⟦<Self as Disk>⟧.view self.new) }
-        ensures history { (⟦<Self as Disk>⟧.view self.new).history ≡ (⟦<Self as Disk>⟧.view self.old).history }
+        ensures called { Called result (⟦<Self as Disk>⟧.view self.old)
+            (⟦<Self as Disk>⟧.view self.new) }
+        ensures history { (⟦<Self as Disk>⟧.view self.new).history
+            ≡ (⟦<Self as Disk>⟧.view self.old).history }
         ensures value { MatchResult called (λ value. result ≡ Ok value) (λ _. IsErr result) }
     {
         let before = self.failures;

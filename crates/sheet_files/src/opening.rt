@@ -67,7 +67,8 @@ fn open_first<F: Drop, N: Names<F>>(names: &mut N, path: &str, lock: Lock) -> Re
 /// Opens the second file of a worksheet, to read and to write. A missing one is made, but where the
 /// worksheet lies in it: then an empty one would stand in the place of what was lost.
 fn open_or_make<F: Drop, N: Names<F>>(names: &mut N, alt: &str, first: &F) -> io::Result<F>
-    ensures { IfOk result (λ second. SecondOpened N.Names alt.now first.now second names.old names.new) }
+    ensures { IfOk result (λ second. SecondOpened N.Names alt.now first.now second names.old
+        names.new) }
 {
     match names.open(alt, Lock::Exclusive) {
         Err(error) if error.kind() == ErrorKind::NotFound => {
@@ -132,7 +133,8 @@ fn open_if_there<F: Drop, N: Names<F>>(
     alt: &str,
     first: &F,
 ) -> Result<Option<F>, FilesFault>
-    ensures { IfOk result (λ second. SecondRead N.Names alt.now first.now second names.old names.new) }
+    ensures { IfOk result (λ second. SecondRead N.Names alt.now first.now second names.old
+        names.new) }
 {
     match names.open(alt, Lock::Shared) {
         Ok(second) => {
@@ -150,7 +152,8 @@ pub(crate) fn open_to_read<F: Drop, N: Names<F>>(
     path: &str,
     alt: &str,
 ) -> Result<(F, Option<F>), FilesFault>
-    ensures { IfOk result (λ files. OpenedToRead N.Names path.now alt.now files names.old names.new) }
+    ensures { IfOk result (λ files. OpenedToRead N.Names path.now alt.now files names.old
+        names.new) }
 {
     let first = open_first(names, path, Lock::Shared)?;
     let second = open_if_there(names, alt, &first)?;

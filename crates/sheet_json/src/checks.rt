@@ -46,7 +46,8 @@ fn with_answer(
     answer: &Option<Answer>,
 ) -> Result<Members, AllocError>
     ensures { IfOk result (λ more. members_view more.map.entries
-        ≡ with_member (codes "shows") (json.answer_data answer.now) (members_view members.map.entries)) }
+        ≡ with_member (codes "shows") (json.answer_data answer.now)
+        (members_view members.map.entries)) }
 {
     let shows = answer_value(alloc, answer)?;
     members.with("shows", shows)

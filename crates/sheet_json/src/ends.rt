@@ -69,7 +69,8 @@ pub fn counted_in_time_value(
     passed: u64,
 ) -> Result<Value, AllocError>
     ensures { IfOk result (λ value. view value
-        ≡ telling_data (reported.counted_in_time counted.answered counted.unanswered counted.errors over passed)) }
+        ≡ telling_data (reported.counted_in_time counted.answered counted.unanswered counted.errors
+        over passed)) }
 {
     Members::new(alloc)
         .count("answered", counted.answered)?
@@ -109,7 +110,8 @@ pub fn fault_value(
     name: &str,
     offset: Option<u64>,
 ) -> Result<Value, AllocError>
-    ensures { IfOk result (λ value. view value ≡ telling_data (reported.fault number name.now offset)) }
+    ensures { IfOk result (λ value. view value ≡ telling_data
+        (reported.fault number name.now offset)) }
 {
     let members = Members::new(alloc)
         .text("name", name)?

@@ -54,7 +54,8 @@ pub fn banner_value(
     next: Option<&[u8]>,
 ) -> Result<Value, AllocError>
     ensures { IfOk result (λ value. view value
-        ≡ telling_data (reported.event session.now life (reported.banner output.now (option_copied next.entry)))) }
+        ≡ telling_data (reported.event session.now life (reported.banner output.now
+        (option_copied next.entry)))) }
 {
     let next = prompt_value(alloc, next)?;
     Members::new(alloc)
@@ -78,7 +79,8 @@ pub fn answered_value(
     next: Option<&[u8]>,
 ) -> Result<Value, AllocError>
     ensures { IfOk result (λ value. view value
-        ≡ telling_data (reported.event session.now life (reported.answer id prompt.now output.now (option_copied next.entry)))) }
+        ≡ telling_data (reported.event session.now life (reported.answer id prompt.now output.now
+        (option_copied next.entry)))) }
 {
     let next = prompt_value(alloc, next)?;
     Members::new(alloc)
@@ -107,7 +109,8 @@ pub(crate) fn texts_value(alloc: Global, texts: &[Octets]) -> Result<Value, Allo
 
 /// The completions, or that the answer tells none.
 fn completions_value(alloc: Global, given: Option<&Completions>) -> Result<Value, AllocError>
-    ensures { IfOk result (λ value. view value ≡ json.completions_data (option_copied given.entry)) }
+    ensures { IfOk result (λ value. view value ≡ json.completions_data
+        (option_copied given.entry)) }
 {
     match given {
         None => Ok(Value::Null),

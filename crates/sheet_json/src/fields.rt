@@ -59,7 +59,8 @@ fn open_field(alloc: Global, field: &Field, waits: bool) -> Result<Value, AllocE
 
 /// A field, of which a host knows whether its line waits.
 fn field_value(alloc: Global, field: &Field, waits: bool) -> Result<Value, AllocError>
-    ensures { IfOk result (λ value. view value ≡ json.field_data (shown.field_reported waits field.now)) }
+    ensures { IfOk result (λ value. view value ≡ json.field_data
+        (shown.field_reported waits field.now)) }
 {
     match (&field.answer, field.lost) {
         (Some(answer), _) => answered_field(alloc, field, answer),

@@ -18,9 +18,12 @@ use std::alloc::{AllocError, Global};
 /// What stands in front of the line feed reads as the value, by the reader of `serde_json`; and no byte
 /// of that ends a line, whatever stands in the value's strings.
 pub fn line_bytes(alloc: Global, value: &Value) -> Result<Vec<u8>, AllocError>
-    ensures text { IfOk result (λ bytes. has_float (view value.now) ≡ false → bytes.items ≡ json_line (view value.now)) }
-    ensures reads { IfOk result (λ bytes. depth (view value.now) ≤ max_depth → lines.ReadsAs bytes.items (view value.now)) }
-    ensures within { IfOk result (λ bytes. has_float (view value.now) ≡ false → HasCounts (view value.now) → lines.IsOneLine bytes.items) }
+    ensures text { IfOk result (λ bytes. has_float (view value.now) ≡ false → bytes.items
+        ≡ json_line (view value.now)) }
+    ensures reads { IfOk result (λ bytes. depth (view value.now) ≤ max_depth → lines.ReadsAs
+        bytes.items (view value.now)) }
+    ensures within { IfOk result (λ bytes. has_float (view value.now) ≡ false → HasCounts
+        (view value.now) → lines.IsOneLine bytes.items) }
 {
     let mut bytes = value.to_vec(alloc)?;
     bytes.push(b'\n')?;
@@ -29,7 +32,8 @@ pub fn line_bytes(alloc: Global, value: &Value) -> Result<Vec<u8>, AllocError>
 
 /// The line of a message.
 pub fn reported_bytes(alloc: Global, value: &Value) -> Result<Vec<u8>, AllocError>
-    ensures { (t : Telling) → view value.now ≡ telling_data t → IfOk result (λ bytes. bytes.items ≡ telling_line t) }
+    ensures { (t : Telling) → view value.now ≡ telling_data t
+        → IfOk result (λ bytes. bytes.items ≡ telling_line t) }
 {
     line_bytes(alloc, value)
 }

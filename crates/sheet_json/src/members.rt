@@ -91,7 +91,8 @@ impl Members {
     /// With the input of a field, which has a line feed for each U+2028.
     pub(crate) fn input(self, input: &str) -> Result<Members, AllocError>
         ensures { IfOk result (λ more. members_view more.map.entries
-            ≡ with_member (codes "input") (string (unfolded input.now)) (members_view self.map.entries)) }
+            ≡ with_member (codes "input") (string (unfolded input.now))
+            (members_view self.map.entries)) }
     {
         let text = unfold(self.alloc, input)?;
         self.with("input", Value::from(text))
@@ -108,7 +109,8 @@ impl Members {
     /// The object of these, where this is its type.
     pub(crate) fn typed(self, name: &str) -> Result<Value, AllocError>
         ensures { IfOk result (λ value. view value
-            ≡ object (with_member (codes "type") (string name.now) (members_view self.map.entries))) }
+            ≡ object (with_member (codes "type") (string name.now)
+            (members_view self.map.entries))) }
     {
         let members = self.text("type", name)?;
         Ok(members.done())

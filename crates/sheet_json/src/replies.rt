@@ -20,7 +20,8 @@ pub fn done_value(alloc: Global, line: u64) -> Result<Value, AllocError>
 
 /// A field was made, with this number.
 pub fn made_value(alloc: Global, line: u64, id: u32) -> Result<Value, AllocError>
-    ensures { IfOk result (λ value. view value ≡ telling_data (reported.reply line (reported.made id))) }
+    ensures { IfOk result (λ value. view value ≡ telling_data
+        (reported.reply line (reported.made id))) }
 {
     Members::new(alloc)
         .count("id", id as u64)?
@@ -30,7 +31,8 @@ pub fn made_value(alloc: Global, line: u64, id: u32) -> Result<Value, AllocError
 
 /// The life with this number has the item.
 pub fn asked_value(alloc: Global, line: u64, life: u32) -> Result<Value, AllocError>
-    ensures { IfOk result (λ value. view value ≡ telling_data (reported.reply line (reported.asked life))) }
+    ensures { IfOk result (λ value. view value ≡ telling_data
+        (reported.reply line (reported.asked life))) }
 {
     Members::new(alloc)
         .count("life", life as u64)?
@@ -40,7 +42,8 @@ pub fn asked_value(alloc: Global, line: u64, life: u32) -> Result<Value, AllocEr
 
 /// A command was refused.
 pub fn refused_value(alloc: Global, line: u64, why: Refusal) -> Result<Value, AllocError>
-    ensures { IfOk result (λ value. view value ≡ telling_data (reported.reply line (reported.refused why))) }
+    ensures { IfOk result (λ value. view value ≡ telling_data
+        (reported.reply line (reported.refused why))) }
 {
     Members::new(alloc)
         .count("line", line)?
@@ -58,14 +61,16 @@ pub fn bad_value(alloc: Global, line: u64) -> Result<Value, AllocError>
 
 /// A line does nothing.
 pub fn nothing_value(alloc: Global, line: u64) -> Result<Value, AllocError>
-    ensures { IfOk result (λ value. view value ≡ telling_data (reported.reply line reported.nothing)) }
+    ensures { IfOk result (λ value. view value ≡ telling_data
+        (reported.reply line reported.nothing)) }
 {
     Members::new(alloc).count("line", line)?.typed("nothing")
 }
 
 /// The interpreter of a session was interrupted, or not: what came of it, as a word.
 pub fn interrupted_value(alloc: Global, line: u64, outcome: &str) -> Result<Value, AllocError>
-    ensures { IfOk result (λ value. view value ≡ telling_data (reported.reply line (reported.interrupted outcome.now))) }
+    ensures { IfOk result (λ value. view value ≡ telling_data
+        (reported.reply line (reported.interrupted outcome.now))) }
 {
     Members::new(alloc)
         .count("line", line)?
@@ -75,7 +80,8 @@ pub fn interrupted_value(alloc: Global, line: u64, outcome: &str) -> Result<Valu
 
 /// A transaction ends, from this first one on, of which nothing was done.
 pub fn undone_value(alloc: Global, first: u64, line: u64) -> Result<Value, AllocError>
-    ensures { IfOk result (λ value. view value ≡ telling_data (reported.reply line (reported.undone first))) }
+    ensures { IfOk result (λ value. view value ≡ telling_data
+        (reported.reply line (reported.undone first))) }
 {
     Members::new(alloc)
         .count("from", first)?
@@ -85,7 +91,8 @@ pub fn undone_value(alloc: Global, first: u64, line: u64) -> Result<Value, Alloc
 
 /// A wait is over, since no item waits, or since its time is over.
 pub fn waited_value(alloc: Global, line: u64, timed_out: bool) -> Result<Value, AllocError>
-    ensures { IfOk result (λ value. view value ≡ telling_data (reported.reply line (reported.waited timed_out))) }
+    ensures { IfOk result (λ value. view value ≡ telling_data
+        (reported.reply line (reported.waited timed_out))) }
 {
     Members::new(alloc)
         .count("line", line)?

@@ -21,7 +21,8 @@ fn answer_value(
     next: Option<&[u8]>,
 ) -> Result<Option<Value>, AllocError>
     ensures { IfOk result (λ value. option_map view value
-        ≡ option_map (event_data session.now life) (replies.answer_event (option_copied next.entry) id answer.now)) }
+        ≡ option_map (event_data session.now life) (replies.answer_event (option_copied next.entry)
+        id answer.now)) }
 {
     match answer {
         None => Ok(None),

@@ -91,7 +91,8 @@ fn ids_value(alloc: Global, sheet: &Sheet) -> Result<Value, AllocError>
 fn with_ids(alloc: Global, members: Members, sheet: &Sheet) -> Result<Members, AllocError>
     ensures { IfOk result (λ more. members_view more.map.entries
         ≡ with_member (codes "next") (json.count sheet.now.contents.next)
-        (with_member (codes "fields") (json.ids_data (shown.ids_of sheet.now.contents)) (members_view members.map.entries))) }
+        (with_member (codes "fields") (json.ids_data (shown.ids_of sheet.now.contents))
+        (members_view members.map.entries))) }
 {
     let ids = ids_value(alloc, sheet)?;
     members

@@ -37,7 +37,8 @@ fn push_hello(alloc: Global, bytes: &mut Vec<u8>) -> Result<(), AllocError>
 /// Adds a field.
 #[tactic(auto, using(crate::proofs::NoFloats::field_has_none))]
 fn push_field(alloc: Global, field: &Field, bytes: &mut Vec<u8>) -> Result<(), AllocError>
-    ensures { OnOk result (bytes.new.items ≡ bytes.old.items ++ telling_line (still_field field.now)) }
+    ensures { OnOk result (bytes.new.items ≡ bytes.old.items ++ telling_line
+        (still_field field.now)) }
 {
     let value = shown_field_value(alloc, field)?;
     push_line(alloc, &value, bytes)

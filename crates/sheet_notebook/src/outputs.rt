@@ -231,7 +231,8 @@ fn has_own_output(items: &[Item], in_output: bool) -> bool
 #[tactic(auto, using(crate::proofs::Parts::part_steps))]
 fn piece_outputs(alloc: Global, items: &[Item], in_output: bool) -> Result<Value, AllocError>
     ensures { IfOk result (λ value. view value
-        ≡ array (items_of (notebook.piece_outputs in_output (items_from (map piece_of items.now))))) }
+        ≡ array (items_of (notebook.piece_outputs in_output (items_from
+        (map piece_of items.now))))) }
 {
     let mut parts = Vec::new(alloc);
     let mut rest = items;

@@ -25,7 +25,8 @@ fn is_plain_character(character: char, keeps_lines: bool) -> bool
 /// Adds a byte as `\x` and two digits.
 #[tactic(auto, using(crate::proofs::Adding::steps))]
 fn push_escaped(byte: u8, text: &mut String) -> Result<(), AllocError>
-    ensures { OnOk result (Adds (string_bytes text.old) (string_bytes text.new) (escape.escaped_byte byte)) }
+    ensures { OnOk result (Adds (string_bytes text.old) (string_bytes text.new)
+        (escape.escaped_byte byte)) }
 {
     let high = hex_digit(byte / 16);
     let low = hex_digit(byte % 16);
@@ -44,7 +45,8 @@ fn push_first(
     text: &mut String,
 ) -> Result<(), AllocError>
     ensures { OnOk result
-        (Adds (string_bytes text.old) (string_bytes text.new) (shown.first_string keeps_lines byte character)) }
+        (Adds (string_bytes text.old) (string_bytes text.new)
+        (shown.first_string keeps_lines byte character)) }
 {
     match character {
         None => push_escaped(byte, text),
@@ -73,7 +75,8 @@ fn others_of(character: Option<char>, size: usize) -> usize
 /// digits. Tabs and line feeds stay where lines are kept.
 #[tactic(auto, using(crate::proofs::Adding::text_steps))]
 fn push_text(bytes: &[u8], keeps_lines: bool, text: &mut String) -> Result<(), AllocError>
-    ensures { OnOk result (Adds (string_bytes text.old) (string_bytes text.new) (shown.string_of keeps_lines bytes.now)) }
+    ensures { OnOk result (Adds (string_bytes text.old) (string_bytes text.new)
+        (shown.string_of keeps_lines bytes.now)) }
 {
     let mut rest = bytes;
     let mut left = 0;

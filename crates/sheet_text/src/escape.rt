@@ -158,7 +158,8 @@ fn write_in_quotes<W: Write>(bytes: &[u8], out: &mut W) -> Result<(), WriteFault
 /// Writes bytes between quotes like `write_line`, but a backslash before a quote and a backslash.
 #[tactic(auto, using(crate::proofs::Appending::steps))]
 pub(crate) fn write_quoted<W: Write>(bytes: &[u8], out: &mut W) -> Result<(), WriteFault>
-    ensures { OnOk result (Appends (W.contents out.old) (W.contents out.new) (in_quotes bytes.now)) }
+    ensures { OnOk result (Appends (W.contents out.old) (W.contents out.new)
+        (in_quotes bytes.now)) }
 {
     out.write_all(b"\"").map_err(|_| WriteFault)?;
     write_in_quotes(bytes, out)?;

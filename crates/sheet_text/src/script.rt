@@ -167,7 +167,8 @@ fn read_move(rest: &[u8]) -> Result<Command, LineFault>
 
 /// `CURSOR`, or `CURSOR TEXT`
 fn read_cursor(alloc: Global, id: u32, rest: &[u8]) -> Result<Command, LineFault>
-    ensures ok { IfOk result (λ reported. said.complete_after (Some id) (Some rest.now) ≡ Some reported) }
+    ensures ok { IfOk result (λ reported. said.complete_after (Some id) (Some rest.now) ≡ Some
+        reported) }
     ensures bad { IsErrOf result fault.BadLine
         → said.complete_after (Some id) (Some rest.now) ≡ None }
     ensures memory { IsErrOf result fault.OutOfMemory
@@ -202,7 +203,8 @@ fn read_complete(alloc: Global, rest: &[u8]) -> Result<Command, LineFault>
 
 /// `ID`
 fn read_remove(rest: &[u8]) -> Result<Command, LineFault>
-    ensures ok { IfOk result (λ reported. option_map (λ id. command.Remove id) (said.number_written rest.now)
+    ensures ok { IfOk result (λ reported. option_map (λ id. command.Remove id)
+        (said.number_written rest.now)
         ≡ Some reported) }
     ensures bad { IsErrOf result fault.BadLine
         → option_map (λ id. command.Remove id) (said.number_written rest.now) ≡ None }
@@ -214,7 +216,8 @@ fn read_remove(rest: &[u8]) -> Result<Command, LineFault>
 
 /// `ID`
 fn read_clear(rest: &[u8]) -> Result<Command, LineFault>
-    ensures ok { IfOk result (λ reported. option_map (λ id. command.Clear id) (said.number_written rest.now)
+    ensures ok { IfOk result (λ reported. option_map (λ id. command.Clear id)
+        (said.number_written rest.now)
         ≡ Some reported) }
     ensures bad { IsErrOf result fault.BadLine
         → option_map (λ id. command.Clear id) (said.number_written rest.now) ≡ None }
@@ -226,7 +229,8 @@ fn read_clear(rest: &[u8]) -> Result<Command, LineFault>
 
 /// `ID`
 fn read_eval(rest: &[u8]) -> Result<Command, LineFault>
-    ensures ok { IfOk result (λ reported. option_map (λ id. command.Eval id) (said.number_written rest.now)
+    ensures ok { IfOk result (λ reported. option_map (λ id. command.Eval id)
+        (said.number_written rest.now)
         ≡ Some reported) }
     ensures bad { IsErrOf result fault.BadLine
         → option_map (λ id. command.Eval id) (said.number_written rest.now) ≡ None }

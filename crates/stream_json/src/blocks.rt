@@ -94,7 +94,8 @@ fn write_later<W: Write>(alloc: Global, stream: &[u8], out: &mut W) -> Result<bo
     requires { length stream.now ≤ longest_standard_input }
     ensures printed { IfOk result (λ whole. (blocks : List Outer) × (end : StreamEnd)
         × StreamHas limits stream.now blocks end
-        × Appends (W.contents out.old) (W.contents out.new) (flat_map json_line (later_objects blocks end))
+        × Appends (W.contents out.old) (W.contents out.new) (flat_map json_line
+        (later_objects blocks end))
         × (whole ≡ is_whole end)) }
     ensures err { IfErr result IsUnwritten }
 {
@@ -158,7 +159,8 @@ pub fn block_objects<R: Read, W: Write>(
 
     // An input that is too long is reported as such, whatever else would go wrong with its text.
     ensures short { IfOk result
-        (λ whole. IfSome (R.remaining reader.old) (λ stream. length stream ≤ longest_standard_input)) }
+        (λ whole. IfSome (R.remaining reader.old) (λ stream. length stream
+        ≤ longest_standard_input)) }
     ensures output_short { IsErrOf result RunFault.Output
         → IfSome (R.remaining reader.old) (λ stream. length stream ≤ longest_standard_input) }
     ensures too_long { IsErrOf result RunFault.InputTooLong

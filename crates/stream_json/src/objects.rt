@@ -15,7 +15,8 @@ use std::alloc::{AllocError, Global};
 
 /// The text of a channel, or that a block has no such channel.
 fn channel_value(alloc: Global, block: &Block, name: &[u8]) -> Result<Value, AllocError>
-    ensures { IfOk result (λ value. view value ≡ channel_data (text_on_channel name.now block.now)) }
+    ensures { IfOk result (λ value. view value ≡ channel_data
+        (text_on_channel name.now block.now)) }
 {
     match channel_text(alloc, block, name)? {
         None => Ok(Value::Null),

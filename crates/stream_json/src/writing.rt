@@ -16,7 +16,8 @@ use std::io::Write;
 /// Writes a value on its line.
 fn write_line<W: Write>(alloc: Global, value: &Value, out: &mut W) -> Result<(), RunFault>
     ensures ok { has_float (view value.now) ≡ false
-        → OnOk result (Appends (W.contents out.old) (W.contents out.new) (json_line (view value.now))) }
+        → OnOk result (Appends (W.contents out.old) (W.contents out.new)
+        (json_line (view value.now))) }
     ensures err { IfErr result IsUnwritten }
 {
     match line_bytes(alloc, value) {

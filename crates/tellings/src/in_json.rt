@@ -111,7 +111,8 @@ fn write_child<W: Write>(
     ensures ok { OnOk result (Appends (W.contents writer.old) (W.contents writer.new)
         (texts.child_json sheet.now.contents (option_copied next.entry) child.now)) }
     ensures err { IfErr result (IsWithheld texts.in_json) }
-    ensures cut { IfErr result (CutShort (W.contents writer.old) (W.contents writer.new) (texts.child_json sheet.now.contents (option_copied next.entry) child.now)) }
+    ensures cut { IfErr result (CutShort (W.contents writer.old) (W.contents writer.new)
+        (texts.child_json sheet.now.contents (option_copied next.entry) child.now)) }
 {
     write_closed(alloc, sheet, next, child, writer)?;
     write_default(alloc, child, writer)?;
@@ -126,10 +127,13 @@ fn write_came<D: Disk, W: Write>(
     reply: &Reply,
     writer: &mut W,
 ) -> Result<(), RunFault>
-    ensures ok { (w : World) → IsHost host.now w → OnOk result (Appends (W.contents writer.old) (W.contents writer.new)
+    ensures ok { (w : World) → IsHost host.now w
+        → OnOk result (Appends (W.contents writer.old) (W.contents writer.new)
         (texts.came_json w reply.now)) }
     ensures err { IfErr result (IsWithheld texts.in_json) }
-    ensures cut { (w : World) → IsHost host.now w → IfErr result (CutShort (W.contents writer.old) (W.contents writer.new) (texts.came_json w reply.now)) }
+    ensures cut { (w : World) → IsHost host.now w
+        → IfErr result (CutShort (W.contents writer.old) (W.contents writer.new)
+        (texts.came_json w reply.now)) }
 {
     match reply {
         Reply::Child(child) => {
@@ -148,10 +152,13 @@ fn write_lives<D: Disk, W: Write>(
     replies: &[Reply],
     writer: &mut W,
 ) -> Result<(), RunFault>
-    ensures ok { (w : World) → IsHost host.now w → OnOk result (Appends (W.contents writer.old) (W.contents writer.new)
+    ensures ok { (w : World) → IsHost host.now w
+        → OnOk result (Appends (W.contents writer.old) (W.contents writer.new)
         (lives_text texts.in_json w replies.now)) }
     ensures err { IfErr result (IsWithheld texts.in_json) }
-    ensures cut { (w : World) → IsHost host.now w → IfErr result (CutShort (W.contents writer.old) (W.contents writer.new) (lives_text texts.in_json w replies.now)) }
+    ensures cut { (w : World) → IsHost host.now w
+        → IfErr result (CutShort (W.contents writer.old) (W.contents writer.new)
+        (lives_text texts.in_json w replies.now)) }
 {
     for reply in replies {
         write_came(alloc, host, reply, writer)?;
@@ -211,10 +218,13 @@ fn write_outcomes<W: Write>(
     writer: &mut W,
 ) -> Result<(), RunFault>
     requires { first + length outcomes.now < 2 ^ 64 }
-    ensures ok { (sheet : Contents) → OnOk result (Appends (W.contents writer.old) (W.contents writer.new)
+    ensures ok { (sheet : Contents)
+        → OnOk result (Appends (W.contents writer.old) (W.contents writer.new)
         (numbered_text texts.in_json first sheet outcomes.now)) }
     ensures err { IfErr result (IsWithheld texts.in_json) }
-    ensures cut { (sheet : Contents) → IfErr result (CutShort (W.contents writer.old) (W.contents writer.new) (numbered_text texts.in_json first sheet outcomes.now)) }
+    ensures cut { (sheet : Contents)
+        → IfErr result (CutShort (W.contents writer.old) (W.contents writer.new)
+        (numbered_text texts.in_json first sheet outcomes.now)) }
 {
     let mut line = first;
     for outcome in outcomes {
@@ -226,7 +236,8 @@ fn write_outcomes<W: Write>(
 
 /// What stands first or last.
 fn write_frame<W: Write>(alloc: Global, frame: Frame, writer: &mut W) -> Result<(), RunFault>
-    ensures ok { OnOk result (Appends (W.contents writer.old) (W.contents writer.new) (texts.frame_json frame)) }
+    ensures ok { OnOk result (Appends (W.contents writer.old) (W.contents writer.new)
+        (texts.frame_json frame)) }
     ensures err { IfErr result (IsWithheld texts.in_json) }
     ensures unwritten { IfErr result (Unwritten writer.old writer.new) }
 {
@@ -244,7 +255,8 @@ fn write_frame<W: Write>(alloc: Global, frame: Frame, writer: &mut W) -> Result<
 
 /// A fault.
 fn write_fault<W: Write>(alloc: Global, why: RunFault, writer: &mut W) -> Result<(), RunFault>
-    ensures ok { OnOk result (Appends (W.contents writer.old) (W.contents writer.new) (texts.fault_json why)) }
+    ensures ok { OnOk result (Appends (W.contents writer.old) (W.contents writer.new)
+        (texts.fault_json why)) }
 {
     let (number, name, offset) = (faults::number(why), faults::name(why), faults::offset(why));
     write_made(alloc, fault_value(alloc, number, name, offset), writer)

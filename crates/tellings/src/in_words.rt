@@ -59,7 +59,8 @@ fn write_outcome<W: Write>(outcome: &Outcome, writer: &mut W) -> Result<(), RunF
 
 /// Writes the replies of outcomes, and flushes them.
 fn tell_outcomes<W: Write>(outcomes: &[Outcome], writer: &mut W) -> Result<(), RunFault>
-    ensures ok { (line : ℕ) (sheet : Contents) → OnOk result (Appends (W.contents writer.old) (W.contents writer.new)
+    ensures ok { (line : ℕ) (sheet : Contents)
+        → OnOk result (Appends (W.contents writer.old) (W.contents writer.new)
         (numbered_text in_words line sheet outcomes.now)) }
     ensures err { IfErr result (λ fault. fault ≡ RunFault.Output) }
 {
@@ -144,7 +145,8 @@ fn tell_interrupt<W: Write>(
 
 /// Tells that the time of a field is over, and flushes it.
 fn tell_over<W: Write>(id: u32, writer: &mut W) -> Result<(), RunFault>
-    ensures ok { OnOk result (Appends (W.contents writer.old) (W.contents writer.new) (over_line id)) }
+    ensures ok { OnOk result (Appends (W.contents writer.old) (W.contents writer.new)
+        (over_line id)) }
     ensures err { IfErr result (λ fault. fault ≡ RunFault.Output) }
 {
     writeln!(writer, "over {id}").map_err(|_| RunFault::Output)?;
@@ -154,7 +156,8 @@ fn tell_over<W: Write>(id: u32, writer: &mut W) -> Result<(), RunFault>
 
 /// Tells that nothing was done of a transaction, and flushes it.
 fn tell_undone<W: Write>(first: u64, last: u64, writer: &mut W) -> Result<(), RunFault>
-    ensures ok { OnOk result (Appends (W.contents writer.old) (W.contents writer.new) (undone_line first last)) }
+    ensures ok { OnOk result (Appends (W.contents writer.old) (W.contents writer.new)
+        (undone_line first last)) }
     ensures err { IfErr result (λ fault. fault ≡ RunFault.Output) }
 {
     writeln!(writer, "undone {first} {last}").map_err(|_| RunFault::Output)?;

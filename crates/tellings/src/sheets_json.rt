@@ -31,7 +31,8 @@ fn write_part<D: Disk, W: Write>(
     writer: &mut W,
 ) -> Result<(), RunFault>
     ensures ok { (w : World) → IsHost host.now w
-        → OnOk result (Appends (W.contents writer.old) (W.contents writer.new) (texts.part_line line w field.now)) }
+        → OnOk result (Appends (W.contents writer.old) (W.contents writer.new)
+        (texts.part_line line w field.now)) }
     ensures err { IfErr result (IsWithheld texts.in_json) }
     ensures unwritten { IfErr result (Unwritten writer.old writer.new) }
 {
@@ -47,10 +48,13 @@ fn write_parts<D: Disk, W: Write>(
     sheet: &Sheet,
     writer: &mut W,
 ) -> Result<(), RunFault>
-    ensures ok { (w : World) → IsHost host.now w → OnOk result (Appends (W.contents writer.old) (W.contents writer.new)
+    ensures ok { (w : World) → IsHost host.now w
+        → OnOk result (Appends (W.contents writer.old) (W.contents writer.new)
         (texts.parts_text line w sheet.now.contents.fields)) }
     ensures err { IfErr result (IsWithheld texts.in_json) }
-    ensures cut { (w : World) → IsHost host.now w → IfErr result (CutShort (W.contents writer.old) (W.contents writer.new) (texts.parts_text line w sheet.now.contents.fields)) }
+    ensures cut { (w : World) → IsHost host.now w
+        → IfErr result (CutShort (W.contents writer.old) (W.contents writer.new)
+        (texts.parts_text line w sheet.now.contents.fields)) }
 {
     let mut fields = sheet.fields();
     while let Some(field) = fields.next() {
@@ -62,7 +66,8 @@ fn write_parts<D: Disk, W: Write>(
 /// The number of a life, and how many items wait in it.
 fn life_shown(life: Option<LifeView>) -> (Option<u32>, u32)
     ensures number { result.0 ≡ option_map (λ l. l.number) life }
-    ensures waiting { (l : Option Going) → life ≡ option_map life_view l → result.1 ≡ texts.waiting_count l }
+    ensures waiting { (l : Option Going) → life ≡ option_map life_view l
+        → result.1 ≡ texts.waiting_count l }
 {
     match life {
         None => (None, 0),
@@ -103,7 +108,8 @@ fn session_rows<D: Disk>(
 
 /// What the fields and sessions are together.
 fn whole<D: Disk>(alloc: Global, line: u64, host: &Host<D>) -> Result<Value, AllocError>
-    ensures { (w : World) → IsHost host.now w → IfOk result (λ value. view value ≡ telling_data (texts.whole_reported line w)) }
+    ensures { (w : World) → IsHost host.now w
+        → IfOk result (λ value. view value ≡ telling_data (texts.whole_reported line w)) }
 {
     let rows = session_rows(alloc, host, host.sheet())?;
     sheet_value(alloc, line, host.sheet(), rows)
@@ -117,9 +123,12 @@ pub(crate) fn write_sheet<D: Disk, W: Write>(
     writer: &mut W,
 ) -> Result<(), RunFault>
     ensures ok { (w : World) → IsHost host.now w
-        → OnOk result (Appends (W.contents writer.old) (W.contents writer.new) (texts.sheet_json line w)) }
+        → OnOk result (Appends (W.contents writer.old) (W.contents writer.new)
+        (texts.sheet_json line w)) }
     ensures err { IfErr result (IsWithheld texts.in_json) }
-    ensures cut { (w : World) → IsHost host.now w → IfErr result (CutShort (W.contents writer.old) (W.contents writer.new) (texts.sheet_json line w)) }
+    ensures cut { (w : World) → IsHost host.now w
+        → IfErr result (CutShort (W.contents writer.old) (W.contents writer.new)
+        (texts.sheet_json line w)) }
 {
     write_parts(alloc, line, host, host.sheet(), writer)?;
     write_made(alloc, whole(alloc, line, host), writer)?;
@@ -134,7 +143,8 @@ pub(crate) fn write_field<D: Disk, W: Write>(
     host: &Host<D>,
     writer: &mut W,
 ) -> Result<(), RunFault>
-    ensures ok { (w : World) → IsHost host.now w → OnOk result (Appends (W.contents writer.old) (W.contents writer.new)
+    ensures ok { (w : World) → IsHost host.now w
+        → OnOk result (Appends (W.contents writer.old) (W.contents writer.new)
         (texts.field_json line w (field_in (sheet_in w).fields id))) }
     ensures err { IfErr result (IsWithheld texts.in_json) }
     ensures unwritten { IfErr result (Unwritten writer.old writer.new) }

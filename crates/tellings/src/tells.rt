@@ -24,14 +24,16 @@ pub trait Tells {
 
     /// Tells what stands first or last. Only a voice that takes memory can fail there.
     fn frame<W: Write>(&self, frame: Frame, writer: &mut W) -> Result<(), RunFault>
-        ensures ok { OnOk result (Appends (W.contents writer.old) (W.contents writer.new) (voice.frame frame)) }
+        ensures ok { OnOk result (Appends (W.contents writer.old) (W.contents writer.new)
+            (voice.frame frame)) }
         ensures still { voice.takes_memory ≡ false → writer.new ≡ writer.old }
         ensures err { IfErr result (λ why. (voice.takes_memory ≡ true) × IsWithheld voice why) }
         ensures unwritten { IfErr result (Unwritten writer.old writer.new) };
 
     /// Tells what comes of a line, or of a wait, apart from replies.
     fn note<W: Write>(&self, note: Note, writer: &mut W) -> Result<(), RunFault>
-        ensures ok { OnOk result (Appends (W.contents writer.old) (W.contents writer.new) (voice.note note)) }
+        ensures ok { OnOk result (Appends (W.contents writer.old) (W.contents writer.new)
+            (voice.note note)) }
         ensures err { IfErr result (IsWithheld voice) }
         ensures unwritten { IfErr result (Unwritten writer.old writer.new) };
 
@@ -60,10 +62,12 @@ pub trait Tells {
         writer: &mut W,
     ) -> Result<(), RunFault>
         ensures ok { (w : World) → IsHost host.now w
-            → OnOk result (Appends (W.contents writer.old) (W.contents writer.new) (lives_text voice w replies.now)) }
+            → OnOk result (Appends (W.contents writer.old) (W.contents writer.new)
+            (lives_text voice w replies.now)) }
         ensures err { IfErr result (IsWithheld voice) }
         ensures cut { (w : World) → IsHost host.now w
-            → IfErr result (CutShort (W.contents writer.old) (W.contents writer.new) (lives_text voice w replies.now)) };
+            → IfErr result (CutShort (W.contents writer.old) (W.contents writer.new)
+            (lives_text voice w replies.now)) };
 
     /// Tells what came of lives, with what this host knows of each.
     fn events<D: Disk, W: Write>(
@@ -73,10 +77,12 @@ pub trait Tells {
         writer: &mut W,
     ) -> Result<(), RunFault>
         ensures ok { (w : World) → IsHost host.now w
-            → OnOk result (Appends (W.contents writer.old) (W.contents writer.new) (lives_text voice w replies.now)) }
+            → OnOk result (Appends (W.contents writer.old) (W.contents writer.new)
+            (lives_text voice w replies.now)) }
         ensures err { IfErr result (IsWithheld voice) }
         ensures cut { (w : World) → IsHost host.now w
-            → IfErr result (CutShort (W.contents writer.old) (W.contents writer.new) (lives_text voice w replies.now)) };
+            → IfErr result (CutShort (W.contents writer.old) (W.contents writer.new)
+            (lives_text voice w replies.now)) };
 
     /// Tells the worksheet, for which this line asks.
     fn sheet<D: Disk, W: Write>(
@@ -86,10 +92,12 @@ pub trait Tells {
         writer: &mut W,
     ) -> Result<(), RunFault>
         ensures ok { (w : World) → IsHost host.now w
-            → OnOk result (Appends (W.contents writer.old) (W.contents writer.new) (voice.sheet line w)) }
+            → OnOk result (Appends (W.contents writer.old) (W.contents writer.new)
+            (voice.sheet line w)) }
         ensures err { IfErr result (IsWithheld voice) }
         ensures cut { (w : World) → IsHost host.now w
-            → IfErr result (CutShort (W.contents writer.old) (W.contents writer.new) (voice.sheet line w)) };
+            → IfErr result (CutShort (W.contents writer.old) (W.contents writer.new)
+            (voice.sheet line w)) };
 
     /// Tells the field with this number, for which this line asks, or that there is none.
     fn field<D: Disk, W: Write>(
@@ -100,7 +108,8 @@ pub trait Tells {
         writer: &mut W,
     ) -> Result<(), RunFault>
         ensures ok { (w : World) → IsHost host.now w
-            → OnOk result (Appends (W.contents writer.old) (W.contents writer.new) (voice.field line id w)) }
+            → OnOk result (Appends (W.contents writer.old) (W.contents writer.new)
+            (voice.field line id w)) }
         ensures err { IfErr result (IsWithheld voice) }
         ensures unwritten { IfErr result (Unwritten writer.old writer.new) };
 
@@ -119,6 +128,7 @@ pub trait Tells {
 
     /// Tells a fault, last of all, and whether that went out.
     fn fault<W: Write>(&self, why: RunFault, writer: &mut W) -> bool
-        ensures reported { result ≡ true → Appends (W.contents writer.old) (W.contents writer.new) (voice.fault why) }
+        ensures reported { result ≡ true
+            → Appends (W.contents writer.old) (W.contents writer.new) (voice.fault why) }
         ensures still { voice.takes_memory ≡ false → writer.new ≡ writer.old };
 }

@@ -54,7 +54,8 @@ pub(crate) fn write_if<W: Write>(
 ) -> Result<(), RunFault>
     ensures ok { (session : List ℕ) (life : ℕ) (e : Option EventReported)
         → IfOk made (λ value. option_map view value ≡ option_map (event_data session life) e)
-        → OnOk result (Appends (W.contents writer.old) (W.contents writer.new) (event_line session life e)) }
+        → OnOk result (Appends (W.contents writer.old) (W.contents writer.new)
+        (event_line session life e)) }
     ensures err { IfErr result (IsWithheld in_json) }
     ensures unwritten { IfErr result (Unwritten writer.old writer.new) }
 {

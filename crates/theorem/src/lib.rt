@@ -51,7 +51,8 @@ pub fn took_one<D: Disk>(
     disk: D,
     event: Event,
 ) -> Result<(Host<D>, Result<Outcome, HostFault>), OpenFault<D>>
-    ensures lived { InModel (D.view disk) (IfOk result (λ r. LivedByStep (D.view disk) event r.1 r.0)) }
+    ensures lived { InModel (D.view disk) (IfOk result (λ r. LivedByStep (D.view disk) event r.1
+        r.0)) }
 
     // That the disk failed is answered where a call of the opening did, and only there.
     ensures faulty { IfErr result (λ e. e.cause ≡ OpenCause.Disk

@@ -95,7 +95,13 @@ fn new_field(
     requires sessions { AreSessions sessions.now.entries }
     requires there { is_some (session_named (shown sessions.now.entries) session) ≡ true }
     requires text { is_utf8 input ≡ true }
-    ensures { result ≡ record { id = id; session = session; input = input; answer = None; lost = None } }
+    ensures { result ≡ record {
+      id = id;
+      session = session;
+      input = input;
+      answer = None;
+      lost = None;
+    } }
 {
     Field {
         id,

@@ -35,7 +35,8 @@ pub fn is_input(bytes: &[u8]) -> bool
 
 // Whether these bytes are an input if they are UTF-8.
 fn may_be_input(bytes: &[u8]) -> bool
-    ensures { result ≡ (nat_le (length bytes.now) longest_input && list_all input_byte_test bytes.now) }
+    ensures { result ≡ (nat_le (length bytes.now) longest_input
+        && list_all input_byte_test bytes.now) }
 {
     bytes.len() <= LONGEST_INPUT && are_input_bytes(bytes)
 }

@@ -74,7 +74,8 @@ pub(crate) fn place_after(fields: &IndexMap<u32, Slot>, after: u32) -> usize
     requires fields { AreFields fields.now.entries }
     requires place { ((after == 0) || is_some (field_in (shown fields.now.entries) after)) ≡ true }
     ensures first { after ≡ 0 → result ≡ 0 }
-    ensures following { after ≢ 0 → (d : Field) → IsAfter after result d (shown fields.now.entries) }
+    ensures following { after ≢ 0 → (d : Field)
+        → IsAfter after result d (shown fields.now.entries) }
     ensures within { result ≤ length (shown fields.now.entries) }
 {
     // A map is no longer than `usize` counts: the place after its last is one more at most.
