@@ -98,7 +98,8 @@ outcomes_append (b ∷ bs) cs = ap (λ (l : List Outcome). b.outcome ∷ l) (out
 pub course_on : (w : World) (d : DiskView) (bs : List Entry) (m : World) (e : DiskView) (cs : List Entry) (v : World) (f : DiskView) → Course w d bs m e → Course m e cs v f → Course w d (bs ++ cs) v f
 course_on w d bs m e cs v f p q = record {
   runs = subst (λ (es : List Event). Runs w es (outcomes_of (bs ++ cs)) v) (sym (events_append bs cs))
-      (subst (λ (os : List Outcome). Runs w (events_of bs ++ events_of cs) os v) (sym (outcomes_append bs cs)) (runs_on w (events_of bs) (outcomes_of bs) m (events_of cs) (outcomes_of cs) v p.runs q.runs));
+      (subst (λ (os : List Outcome). Runs w (events_of bs ++ events_of cs) os v) (sym (outcomes_append bs cs))
+      (runs_on w (events_of bs) (outcomes_of bs) m (events_of cs) (outcomes_of cs) v p.runs q.runs));
   same = same-on d e f p.same q.same;
   moments = λ held. subst (λ (es : List Event). Moments w es (outcomes_of (bs ++ cs)) d f) (sym (events_append bs cs))
       (subst (λ (os : List Outcome). Moments w (events_of bs ++ events_of cs) os d f) (sym (outcomes_append bs cs))

@@ -89,8 +89,10 @@ module _ {A C K : Type 0} (R : Rules A C K) (n : ℕ) (rest : List Item) (w : Wo
   pub took_together : (d : C) (g : HostView) (gave : GaveTogether) → RanTogether R.sources.after (at w c h.store.disk) events g d gave
       → DidSteps R p (take from events ∷ rest) (left_by_answer (λ (x : GaveTogether). printing from x.outcomes.items x.replies.items ++ rest)) (Ok gave) (n, parts g d k a)
   took_together d g gave r =
-      did_one R p (take from events ∷ rest) (took events gave.outcomes.items r.followed) (left_by_answer (λ (x : GaveTogether). printing from x.outcomes.items x.replies.items ++ rest)) (Ok gave) r.leads (n, parts g d k a)
-      (subst (λ (rs : List Reply). Goes R p (take from events ∷ rest) (took events gave.outcomes.items r.followed) (printing from gave.outcomes.items rs ++ rest) (seen n r.leads (parts g d k a))) (sym r.replied)
+      did_one R p (take from events ∷ rest) (took events gave.outcomes.items r.followed)
+      (left_by_answer (λ (x : GaveTogether). printing from x.outcomes.items x.replies.items ++ rest)) (Ok gave) r.leads (n, parts g d k a)
+      (subst (λ (rs : List Reply). Goes R p (take from events ∷ rest) (took events gave.outcomes.items r.followed)
+      (printing from gave.outcomes.items rs ++ rest) (seen n r.leads (parts g d k a))) (sym r.replied)
       (takes from events gave.outcomes.items r.followed r.leads d g.store.disk rest r.run)) r.stands
 
   pub too_many_events : (left : GaveTogether → List Item) → (most_together < length events) ⊎ IsSomeAnd from (λ x. 2 ^ 64 ≤ x + most_together + 1)
@@ -132,7 +134,8 @@ module _ {A C K : Type 0} (R : Rules A C K) (n : ℕ) (rest : List Item) (w : Wo
   pub did_interrupt : {T : Type 0} (name : List ℕ) (result : Interrupted) (d : C) (left : Result T RunFault → List Item) (r : Result T RunFault) (last : ℕ × Parts A C K) → Interrupts R.sources.after w name c result d
       → DidSteps R (seen n w (parts h d k a)) (heed (interrupt_came result) ∷ rest) left r last → DidSteps R (seen n w (parts h c k a)) (interrupt name ∷ rest) left r last
   did_interrupt name result d left r last is did =
-      did_more R (seen n w (parts h c k a)) (interrupt name ∷ rest) (interrupted name result) (heed (interrupt_came result) ∷ rest) (seen n w (parts h d k a)) left r last (interrupts name result d rest is) did
+      did_more R (seen n w (parts h c k a)) (interrupt name ∷ rest) (interrupted name result) (heed (interrupt_came result) ∷ rest)
+      (seen n w (parts h d k a)) left r last (interrupts name result d rest is) did
 
   pub did_rewrite : {T : Type 0} (line : ℕ) (o : Outcome) (g : HostView) (left : Result T RunFault → List Item) (r : Result T RunFault) (last : ℕ × Parts A C K) → SameDisk h.store.disk g.store.disk
       → (t : Took w (event.Command command.Checkpoint) h g o) → DidSteps R (seen n (following w t.did) (parts g c k a)) (printing (Some line) (o ∷ []) [] ++ rest) left r last

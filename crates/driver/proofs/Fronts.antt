@@ -92,7 +92,8 @@ module _ (w : World) (d : DiskView) (bs : List Entry) (m : World) (e : DiskView)
   pub after : (cs : List Entry) (es : List Event) (os : List Outcome) (f : DiskView) → Moments m (events_of cs ++ es) (outcomes_of cs ++ os) e f → Moments w (events_of (bs ++ cs) ++ es) (outcomes_of (bs ++ cs) ++ os) d f
   after cs es os f later =
       subst (λ (l : List Event). Moments w l (outcomes_of (bs ++ cs) ++ os) d f) (sym (ap (λ (l : List Event). l ++ es) (events_append bs cs) ∙ append_assoc (events_of bs) (events_of cs) es))
-      (subst (λ (l : List Outcome). Moments w (events_of bs ++ (events_of cs ++ es)) l d f) (sym (ap (λ (l : List Outcome). l ++ os) (outcomes_append bs cs) ∙ append_assoc (outcomes_of bs) (outcomes_of cs) os))
+      (subst (λ (l : List Outcome). Moments w (events_of bs ++ (events_of cs ++ es)) l d f)
+      (sym (ap (λ (l : List Outcome). l ++ os) (outcomes_append bs cs) ∙ append_assoc (outcomes_of bs) (outcomes_of cs) os))
       (moments_on w (events_of bs) (outcomes_of bs) m (events_of cs ++ es) (outcomes_of cs ++ os) d e f c.runs c.same (c.moments held) later))
 
   fronts_after : (cs : List Entry) (f : DiskView) → LeavesFronts m cs e f → LeavesFronts w (bs ++ cs) d f
@@ -199,5 +200,6 @@ leave_fronts R p q todo left (s ∷ steps) held (next, mid, goes, more) = by (λ
     by on (inl c) = following p mid q (entries_of s) (trace steps) held c (on (c.holds held))
     by on (inr b) =
         let so = fault_stays R mid q b.why next left steps b.left more in
-        subst (λ (l : List Entry). LeavesFrontsOf p l q) (sym (append-nil b.entries) ∙ ap (λ (l : List Entry). b.entries ++ l) (sym so.none) ∙ ap (λ (x : RunStep). entries_of x ++ trace steps) (sym b.step))
+        subst (λ (l : List Entry). LeavesFrontsOf p l q) (sym (append-nil b.entries) ∙ ap (λ (l : List Entry). b.entries ++ l) (sym so.none) ∙ ap
+        (λ (x : RunStep). entries_of x ++ trace steps) (sym b.step))
         (same_there p mid q b.entries so.world so.disk (fails_leave R p mid b.item b.entries b.why held b.fails))

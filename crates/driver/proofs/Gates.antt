@@ -42,7 +42,8 @@ module _ {C : Type 0} (R : Relation C) where
 kept-course : (w : World) (es : List Event) (os : List Outcome) (fs : List Followed) (v : World) (d f : DiskView) → AtOnce w es os v d f → Course w d (group_entries es os fs) v f
 kept-course w es os fs v d f kept =
     let runs : Runs w (events_of (group_entries es os fs)) (outcomes_of (group_entries es os fs)) v =
-    subst (λ (x : List Event). Runs w x (outcomes_of (group_entries es os fs)) v) (sym (group-events w es os v fs kept.runs)) (subst (λ (x : List Outcome). Runs w es x v) (sym (group-outcomes w es os v fs kept.runs)) kept.runs) in
+    subst (λ (x : List Event). Runs w x (outcomes_of (group_entries es os fs)) v) (sym (group-events w es os v fs kept.runs))
+    (subst (λ (x : List Outcome). Runs w es x v) (sym (group-outcomes w es os v fs kept.runs)) kept.runs) in
     record { runs = runs; same = kept.same; moments = λ held. either_moments w (events_of (group_entries es os fs)) (outcomes_of (group_entries es os fs)) v d f runs kept.moments; holds = λ held. kept.holds }
 
 trace-course : (w : World) (es : List Event) (os : List Outcome) (fs : List Followed) (v : World) (d e : DiskView) (u : World) (f : DiskView) → AtOnce w es os v d e → Goes v e (entries_after fs) u f → Course w d (trace_of es os fs) u f

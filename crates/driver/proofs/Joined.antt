@@ -30,7 +30,9 @@ module _ {A C K : Type 0} (R : Rules A C K) (n : ℕ) (rest : List Item) (w : Wo
   pub took_joined : (events : List Event) (b : A) (d : C) (g : HostView) (gave : GaveJoined) → RanJoined (joining_edge R.sources.after (asking R.agenda.joins a b)) (at w c h.store.disk) events g d gave
       → DidSteps R there (join events ∷ rest) (left_by_answer (λ (x : GaveJoined). printing_joined x.first x.outcomes.items x.later.items x.replies.items rest)) (Ok gave) (n, parts g d k b)
   took_joined events b d g gave r =
-      did_one R there (join events ∷ rest) (took (events ++ r.more) (gave.outcomes.items ++ gave.later.items) r.followed) (left_by_answer (λ (x : GaveJoined). printing_joined x.first x.outcomes.items x.later.items x.replies.items rest)) (Ok gave) r.leads (n, parts g d k b)
+      did_one R there (join events ∷ rest) (took (events ++ r.more) (gave.outcomes.items ++ gave.later.items) r.followed)
+      (left_by_answer (λ (x : GaveJoined). printing_joined x.first x.outcomes.items x.later.items x.replies.items rest)) (Ok gave) r.leads
+      (n, parts g d k b)
       (subst (λ (rs : List Reply). Goes R there (join events ∷ rest) (took (events ++ r.more) (gave.outcomes.items ++ gave.later.items) r.followed)
       (printing_joined gave.first gave.outcomes.items gave.later.items rs rest) (seen n r.leads (parts g d k b))) (sym r.replied)
       (joins events gave.outcomes.items gave.first r.more gave.later.items r.followed b r.leads d g.store.disk rest r.joined r.run)) r.stands

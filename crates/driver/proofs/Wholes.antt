@@ -34,7 +34,8 @@ module _ {A C K : Type 0} (R : Rules A C K) (n : ℕ) (rest : List Item) (w : Wo
       (takes_whole first events outcomes.items t.leads g.store.disk rest t.taken) t.stands
   served_whole g (Refused before last) r =
       did_one R there (take_whole first events ∷ rest) (refused_whole events last) (left_by_answer left_by) (Ok (Refused before last)) w (n, parts g c k a)
-      (subst (λ (x : DiskView). Goes R there (take_whole first events ∷ rest) (refused_whole events last) (printing (Some (first + length before.items)) (last ∷ []) [] ++ rest) (record there { disk = x })) (sym r.disk)
+      (subst (λ (x : DiskView). Goes R there (take_whole first events ∷ rest) (refused_whole events last)
+      (printing (Some (first + length before.items)) (last ∷ []) [] ++ rest) (record there { disk = x })) (sym r.disk)
       (refuses_whole first events before.items last rest r.at)) r.stands
 
   pub too_many_at_once : (left : Whole → List Item) → (most_together < length events) ⊎ (2 ^ 64 ≤ first + most_together + 1)
@@ -55,7 +56,8 @@ module _ {A C K : Type 0} (R : Rules A C K) (n : ℕ) (rest : List Item) (w : Wo
   pub refusal_uncounted : (number : ℕ) (last : Outcome) → 2 ^ 64 ≤ number + most_together + 1
       → DidSteps R (seen n w (parts h c k a)) (printing (Some number) (last ∷ []) [] ++ rest) (left_by_answer (λ (x : Unit {0}). rest)) (Err fault.InputTooLong) (n, parts h c k a)
   refusal_uncounted number last many =
-      did_break R (seen n w (parts h c k a)) (print (lines number (last ∷ []))) (print (followed []) ∷ heed (came (last ∷ []) []) ∷ rest) [] (λ (x : Unit {0}). rest) fault.InputTooLong w (n, parts h c k a) (uncounted_line number (last ∷ []) many) (works stands)
+      did_break R (seen n w (parts h c k a)) (print (lines number (last ∷ []))) (print (followed []) ∷ heed (came (last ∷ []) []) ∷ rest) []
+      (λ (x : Unit {0}). rest) fault.InputTooLong w (n, parts h c k a) (uncounted_line number (last ∷ []) many) (works stands)
 
 -- there are so few that there are fewer than more
 pub few_at_most : (most count : ℕ) (made : Whole) → count ≤ most → HasAtMost count made → HasAtMost most made

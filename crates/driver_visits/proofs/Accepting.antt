@@ -75,7 +75,8 @@ module _ (disk back : DiskView) (model : IsTrue disk.keeps_model) (sheet : Conte
   -- nothing was put in
   none-left : back ≡ now → LeftByAcceptance disk back []
   none-left is =
-      let here : (i : Image) → IsSheetImage sheet i → HasFirst ops [] [] i = λ i image. all_first ops [] i (subst (λ (c : Contents). IsSheetImage c i) (found.is ∙ ap sheet_of (sym (append-nil ops))) image) in
+      let here : (i : Image) → IsSheetImage sheet i → HasFirst ops [] [] i = λ i image. all_first ops [] i
+      (subst (λ (c : Contents). IsSheetImage c i) (found.is ∙ ap sheet_of (sym (append-nil ops))) image) in
       subst (λ (d : DiskView). LeftByAcceptance disk d []) (sym is)
       (put_in ops []
       (record {

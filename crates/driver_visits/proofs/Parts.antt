@@ -89,11 +89,13 @@ fails_parted R p q i entries why (unheard seat most) = ended_well p.world p.disk
 fails_parted R p q i entries why (too_many from events many) = ended_well p.world p.disk q.disk refl
 fails_parted R p q i entries why (untaken from events) = ended_well p.world p.disk q.disk refl
 fails_parted R p q i entries why (lost from events h l) = at_loss p.world p.disk events h l
-fails_parted R p q i entries why (broken from events bs e f w c d h t stopped) = at_fault p.world p.disk entries w d e f h (up_to_course R.sources.after (run_at p) events entries e (at w c d) t) stopped
+fails_parted R p q i entries why (broken from events bs e f w c d h t stopped) = at_fault p.world p.disk entries w d e f h
+    (up_to_course R.sources.after (run_at p) events entries e (at w c d) t) stopped
 fails_parted R p q i entries why (too_many_heard events many) = ended_well p.world p.disk q.disk refl
 fails_parted R p q i entries why (unjoined events) = ended_well p.world p.disk q.disk refl
 fails_parted R p q i entries why (lost_joined events all a h all_are l) = at_loss p.world p.disk all h l
-fails_parted R p q i entries why (broken_joined events all a bs e f w c d h all_are t stopped) = at_fault p.world p.disk entries w d e f h (up_to_course R.sources.after (run_at p) all entries e (at w c d) t) stopped
+fails_parted R p q i entries why (broken_joined events all a bs e f w c d h all_are t stopped) = at_fault p.world p.disk entries w d e f h
+    (up_to_course R.sources.after (run_at p) all entries e (at w c d) t) stopped
 fails_parted R p q i entries why (too_many_whole first events many) = ended_well p.world p.disk q.disk refl
 fails_parted R p q i entries why (untaken_whole first events) = ended_well p.world p.disk q.disk refl
 fails_parted R p q i entries why (lost_whole first events h l) = at_loss p.world p.disk events h l.lost
@@ -126,7 +128,9 @@ parted R p q todo left (s ∷ steps) (next, mid, goes, more) = by (parted R mid 
     by on (inl c) = parted_after p.world p.disk (entries_of s) mid.world mid.disk (trace steps) q.disk c on
     by on (inr b) =
         let so = fault_stays R mid q b.why next left steps b.left more in
-        subst (λ (l : List Entry). Parted p.world p.disk l q.disk) (sym (append-nil b.entries) ∙ ap (λ (l : List Entry). b.entries ++ l) (sym so.none) ∙ ap (λ (x : RunStep). entries_of x ++ trace steps) (sym b.step))
+        subst (λ (l : List Entry). Parted p.world p.disk l q.disk)
+        (sym (append-nil b.entries) ∙ ap (λ (l : List Entry). b.entries ++ l) (sym so.none) ∙ ap (λ (x : RunStep). entries_of x ++ trace steps)
+        (sym b.step))
         (subst (λ (x : DiskView). Parted p.world p.disk b.entries x) (sym so.disk) (fails_parted R p mid b.item b.entries b.why b.fails))
 
 -- of entries that are the same

@@ -164,7 +164,8 @@ no-rounds (suc n) = ap (λ (x : List ℕ). x ++ []) (no-rounds n)
 all-there : (n : ℕ) (ps : List Placed) → AreBelow n ps → IsPermutation (map (λ (q : Placed). q.id) ps) (in_rounds ps n)
 all-there n [] h = subst (IsPermutation []) (sym (no-rounds n)) (IsPermutation-refl [])
 all-there n (p ∷ ps) h =
-    IsPermutation-trans (p.id ∷ map (λ (q : Placed). q.id) ps) (p.id ∷ in_rounds ps n) (in_rounds (p ∷ ps) n) (IsPermutation-cons p.id (map (λ (q : Placed). q.id) ps) (in_rounds ps n) (all-there n ps h.1)) (one-more p ps n h.0)
+    IsPermutation-trans (p.id ∷ map (λ (q : Placed). q.id) ps) (p.id ∷ in_rounds ps n) (in_rounds (p ∷ ps) n)
+    (IsPermutation-cons p.id (map (λ (q : Placed). q.id) ps) (in_rounds ps n) (all-there n ps h.1)) (one-more p ps n h.0)
 
 placed-below : (fields : List Field) (front ids : List ℕ) (n : ℕ) → length front + length ids ≤ n → AreBelow n (with_rounds fields front ids)
 placed-below fields front [] n h = tt
@@ -230,7 +231,8 @@ head-at p ps n from h (inl e) less =
     let others = filter (λ (q : Placed). q.round == n) ps in
     let before : in_rounds (p ∷ ps) n ≡ [] = later-round p ps n (omega (arith, e.1)) ∙ none-before ps p.round n (omega (arith, e.1)) from in
     let following : in_rounds ps n ≡ [] = none-before ps p.round n (omega (arith, e.1)) from in
-    ap (λ (b : Bool). in_rounds (p ∷ ps) n ++ map (λ (q : Placed). q.id) (cond b (p ∷ others) others)) e.0 ∙ ap (λ (x : List ℕ). x ++ p.id ∷ in_round ps n) before ∙ ap (λ (x : List ℕ). p.id ∷ (x ++ in_round ps n)) (sym following)
+    ap (λ (b : Bool). in_rounds (p ∷ ps) n ++ map (λ (q : Placed). q.id) (cond b (p ∷ others) others)) e.0 ∙ ap
+    (λ (x : List ℕ). x ++ p.id ∷ in_round ps n) before ∙ ap (λ (x : List ℕ). p.id ∷ (x ++ in_round ps n)) (sym following)
 head-at p ps n from h (inr e) less =
     let others = filter (λ (q : Placed). q.round == n) ps in
     ap (λ (b : Bool). in_rounds (p ∷ ps) n ++ map (λ (q : Placed). q.id) (cond b (p ∷ others) others)) e.0 ∙ ap (λ (x : List ℕ). x ++ in_round ps n) (less (omega (arith, h, e.1)))

@@ -52,7 +52,8 @@ pub none_left : (most : ℕ) (w : World) (rest : List Session) (left : ℕ) → 
 none_left most w rest left e so =
     let none : length (seats_of w rest) ≡ 0 = ap (λ (ss : List Session). length (seats_of w ss)) e in
     let is : left ≡ most - length (waits w) = omega (arith, none, so.is) in
-    same-bool (nat_lt 0 left) (nat_lt (length (waits w)) most) (λ h. lt-ltb (length (waits w)) most (omega (arith, is, ltb-true 0 left h))) (λ h. lt-ltb 0 left (omega (arith, is, ltb-true (length (waits w)) most h)))
+    same-bool (nat_lt 0 left) (nat_lt (length (waits w)) most) (λ h. lt-ltb (length (waits w)) most (omega (arith, is, ltb-true 0 left h)))
+    (λ h. lt-ltb 0 left (omega (arith, is, ltb-true (length (waits w)) most h)))
 
 -- Which of them waits first.
 

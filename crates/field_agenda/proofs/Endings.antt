@@ -170,7 +170,8 @@ module _ {P C K : Type 0} (finds : P → Finds) (sources : SourceRules C) (sink 
   stays_open p q todo next s last (step.watches x w c a rest wakes turned) = inl (following (item.watch x) rest (λ no. no) last)
   stays_open p q todo next s last (step.hears seat most events c rest h) = inl (before (item.join events) rest (following (item.hear seat most) rest (λ no. no) last))
   stays_open p q todo next s last (step.takes from events outcomes followed w c d rest t) =
-      inl (thrice (group_of from outcomes) (followed_of (reported (entries_after followed))) (came outcomes (reported (entries_after followed))) rest (following (item.take from events) rest (λ no. no) last))
+      inl (thrice (group_of from outcomes) (followed_of (reported (entries_after followed))) (came outcomes (reported (entries_after followed))) rest
+      (following (item.take from events) rest (λ no. no) last))
   stays_open p q todo next s last (step.joins events outcomes first more later followed a w c d rest j t) =
       inl (joined first outcomes later (reported (entries_after followed)) rest (following (item.join events) rest (λ no. no) last))
   stays_open p q todo next s last (step.takes_whole first events outcomes w d rest t) =
@@ -181,7 +182,8 @@ module _ {P C K : Type 0} (finds : P → Finds) (sources : SourceRules C) (sink 
       inl (thrice (group_of None outcomes) (followed_of []) (came outcomes []) rest (following (item.take_edits up_to events) rest (λ no. no) last))
   stays_open p q todo next s last (step.takes_alone x o w d rest gives kept) = inl (before (item.carry o) rest (following (item.take_alone x) rest (λ no. no) last))
   stays_open p q todo next s last (step.carries o answer c rest went) =
-      inl (thrice (group_of None (o ∷ [])) (followed_of []) (came (o ∷ []) []) (taking_due (due_of o.effect answer) ++ rest) (due_before (due_of o.effect answer) rest (following (item.carry o) rest (λ no. no) last)))
+      inl (thrice (group_of None (o ∷ [])) (followed_of []) (came (o ∷ []) []) (taking_due (due_of o.effect answer) ++ rest)
+      (due_before (due_of o.effect answer) rest (following (item.carry o) rest (λ no. no) last)))
   stays_open p q todo next s last (step.receives seat x c rest was) = inl (before (item.take_alone x) rest (following (item.receive seat) rest (λ no. no) last))
   stays_open p q todo next s last (step.rewrites line o w d rest gives kept) =
       inl (thrice (group_of (Some line) (o ∷ [])) (followed_of []) (came (o ∷ []) []) rest (following (item.rewrite line) rest (λ no. no) last))

@@ -200,7 +200,18 @@ module _ (first : ℕ) (edits : List Event) where
             ends = e.ends;
             are = from_there front given begins e.ends leads.order.taken (coming a) _ are
                 (come_on leads.order.taken (e.ends ∷ []) (coming a) (coming b) _ leads.order.are (come_next (e.ends ∷ []) b.buffer e.left b.remaining e.next));
-            number = omega (arith, e.number, leads.order.count, many, one_each, length-append front (begins ∷ given), length-map given said_by, length-map e.transaction.edits line_of_event, ap length e.are);
+            number = omega (
+              arith,
+              e.number,
+              leads.order.count,
+              many,
+              one_each,
+              length-append front
+                  (begins ∷ given),
+              length-map given said_by,
+              length-map e.transaction.edits line_of_event,
+              ap length e.are,
+            );
             said_first = said;
             say = each ∙ ap (λ (es : List Event). map line_of_event es) e.are;
             said_last = e.said;

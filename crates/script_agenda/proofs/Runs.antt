@@ -34,11 +34,14 @@ module _ {C : Type 0} (held : Option (List ℕ) → DiskView → Type 0) (s : So
 
   over_script : (first last : ProgramParts ByScript C PrintedSoFar) (run : Result (Unit {0}) RunFault) → Over given_rules first last run → Over (running_rules s held) (seen_of first) (seen_of last) run
   over_script first last run o =
-      over_seen given_rules script_rules (λ (k : PrintedSoFar). k.text) (λ (k : PrintedSoFar) (disk : DiskView) (text : List ℕ) (whole : Bool) (l : PrintedSoFar). held k.text disk × (l.whole ≡ whole)) script_stand (λ (k : PrintedSoFar). k)
+      over_seen given_rules script_rules (λ (k : PrintedSoFar). k.text)
+      (λ (k : PrintedSoFar) (disk : DiskView) (text : List ℕ) (whole : Bool) (l : PrintedSoFar). held k.text disk × (l.whole ≡ whole)) script_stand
+      (λ (k : PrintedSoFar). k)
       (λ a w n r b said. said) (λ a w b reported. reported) (λ a w n c note b heeds. heeds) (λ a w first more b joins. joins) (λ k d text whole l t. record { tried = t.tried; appends = t.appends }) (λ k d text why l t. record { tried = t.tried; cut = t.cut }) first last run o
 
   pub ran_script : (strict : Bool) (script : List ℕ) (disk later : DiskView) (c d : C) (before after : Option (List ℕ)) (whole : Bool) (begun done : ByScript) (run : Result (Unit {0}) RunFault) (answer : Result (Option ℕ) RunFault)
-      → script_stand begun ≡ script_begun (script_lines script) strict → Over given_rules (program_parts disk c (printed_so_far before true) begun) (program_parts later d (printed_so_far after whole) done) run
+      → script_stand begun ≡ script_begun (script_lines script) strict
+      → Over given_rules (program_parts disk c (printed_so_far before true) begun) (program_parts later d (printed_so_far after whole) done) run
       → answer ≡ script_answer run whole (script_stand done)
       → RanScript (running_rules s held) strict script (outside disk c before) (outside later d after) answer
   ran_script strict script disk later c d before after whole begun done run answer at over is = record {
@@ -46,7 +49,8 @@ module _ {C : Type 0} (held : Option (List ℕ) → DiskView → Type 0) (s : So
     run = run;
     whole = whole;
     over = over_all;
-    true_of = over_true (running_rules s held) own_faults (running_parts (outside disk c before) true (script_begun (script_lines script) strict)) (running_parts (outside later d after) whole (script_stand done)) run over_all;
+    true_of = over_true (running_rules s held) own_faults (running_parts (outside disk c before) true (script_begun (script_lines script) strict))
+        (running_parts (outside later d after) whole (script_stand done)) run over_all;
     is = is;
   }
     where

@@ -151,8 +151,10 @@ module _ {C : Type 0} (o : Way C) (chosen : Chosen) (field : Field) (s : At C) (
 -- A field.
 
 pub shown_took : {C : Type 0} (o : Way C) (chosen : Chosen) (field : Field) (s : At C) (h : HostView) (c : C) (a b : Option (List ℕ)) (ops more : List Op) (disk : DiskView) (store : StoreView)
-    (came : Option Answer) (took : Took) (t : World) (found : Finding) (j : Judgement) → Evaluated o field s came took (at t c h.store.disk) → IsHost h t → Finds chosen field came found → j ≡ found.judgement
-    → Stores ops (more ++ answer_ops field.id found.answer) disk store → Appends a b found.text.items → ShownTook (to_accept o chosen) (question 0 field) s (records.left h c a b) (storing ops more disk store) j
+    (came : Option Answer) (took : Took) (t : World) (found : Finding) (j : Judgement) → Evaluated o field s came took (at t c h.store.disk) → IsHost h t
+    → Finds chosen field came found → j ≡ found.judgement
+    → Stores ops (more ++ answer_ops field.id found.answer) disk store → Appends a b found.text.items
+    → ShownTook (to_accept o chosen) (question 0 field) s (records.left h c a b) (storing ops more disk store) j
 shown_took o chosen field s h c a b ops more disk store came took t found j evaluated stands f is stores wrote =
     subst (ShownTook (to_accept o chosen) (question 0 field) s (records.left h c a b) (storing ops more disk store)) (sym is) (
       (came, t, took, evaluated, stands, f.judged, f.error, subst (Appends a b) f.reported wrote),
@@ -160,24 +162,36 @@ shown_took o chosen field s h c a b ops more disk store came took t found j eval
     )
 
 pub passed_took : {C : Type 0} (o : Way C) (chosen : Chosen) (field : Field) (w : World) (h : HostView) (c : C) (a : Option (List ℕ)) (ops more : List Op) (disk : DiskView) (store : StoreView) (counts : Counts)
-    → is_chosen chosen field ≡ false → IsHost h w → Stores ops more disk store → (wrote : FieldWrote (to_accept o chosen) field (at w c h.store.disk) (records.left h c a a) counts counts) × PutAll (storing ops more disk store) (accepted wrote.0)
+    → is_chosen chosen field ≡ false → IsHost h w → Stores ops more disk store
+    → (wrote : FieldWrote (to_accept o chosen) field (at w c h.store.disk) (records.left h c a a) counts counts)
+    × PutAll (storing ops more disk store) (accepted wrote.0)
 passed_took o chosen field w h c a ops more disk store counts none stands stores =
     (([], w, passed none, stands, refl, Appends-nil a), subst (λ (os : List Op). Stores ops os disk store) (sym (append-nil more)) stores)
 
 pub checked_took : {C : Type 0} (o : Way C) (chosen : Chosen) (field : Field) (s : At C) (h : HostView) (c : C) (a b : Option (List ℕ)) (ops more : List Op) (disk : DiskView) (store : StoreView)
-    (counts after : Counts) (j : Judgement) → is_chosen chosen field ≡ true → ShownTook (to_accept o chosen) (question 0 field) s (records.left h c a b) (storing ops more disk store) j → after ≡ counted_on (j ∷ []) counts
+    (counts after : Counts) (j : Judgement) → is_chosen chosen field ≡ true
+    → ShownTook (to_accept o chosen) (question 0 field) s (records.left h c a b) (storing ops more disk store) j → after ≡ counted_on (j ∷ []) counts
     → (wrote : FieldWrote (to_accept o chosen) field s (records.left h c a b) counts after) × PutAll (storing ops more disk store) (accepted wrote.0)
 checked_took o chosen field s h c a b ops more disk store counts after j some p is =
     let q = p.0 in
     let one = case field q.0 (reason_shown_in q.1 field.id) j.verdict (Some q.2) in (
-      (one ∷ [], q.1, checked q.0 q.2 j.verdict (at q.1 c h.store.disk) some q.3 q.5, q.4, is ∙ as_judged j q.0 counts q.6, subst (Appends a b) (sym (append-nil (case_text format.Accepting 0 one))) q.7),
+      (
+        one ∷ [],
+        q.1,
+        checked q.0 q.2 j.verdict (at q.1 c h.store.disk) some q.3 q.5,
+        q.4,
+        is ∙ as_judged j q.0 counts q.6,
+        subst (Appends a b)
+            (sym (append-nil (case_text format.Accepting 0 one))) q.7,
+      ),
       subst (λ (os : List Op). Stores ops (more ++ os) disk store) (sym (append-nil (accepted_of one))) p.1,
     )
 
 -- Fields.
 
 -- some of the first fields were checked and what differs of them accepted, and these are left
-pub record TookSoFar {C : Type 0} (o : Way C) (chosen : Chosen) (all left : List Field) (s : At C) (h : HostView) (c : C) (a b : Option (List ℕ)) (ops : List Op) (disk : DiskView) (store : StoreView) (counts : Counts) : Type 0 where
+pub record TookSoFar {C : Type 0} (o : Way C) (chosen : Chosen) (all left : List Field) (s : At C) (h : HostView) (c : C) (a b : Option (List ℕ))
+    (ops : List Op) (disk : DiskView) (store : StoreView) (counts : Counts) : Type 0 where
   pub so : FieldsSoFar (to_accept o chosen) all left s h c a b counts
   pub kept : Stores ops (accepted so.cases) disk store
 
@@ -200,7 +214,8 @@ goes_further sheet store new on cases stores = record {
   stores = subst (λ (os : List Op). Stores on.ops os on.disk new) (accepted-more on.cases cases) stores;
 }
 
-module _ {C : Type 0} (o : Way C) (chosen : Chosen) (all left : List Field) (field : Field) (others : List Field) (s : At C) (h : HostView) (c : C) (a b : Option (List ℕ)) (ops : List Op) (disk : DiskView) (store : StoreView)
+module _ {C : Type 0} (o : Way C) (chosen : Chosen) (all left : List Field) (field : Field) (others : List Field) (s : At C) (h : HostView) (c : C)
+    (a b : Option (List ℕ)) (ops : List Op) (disk : DiskView) (store : StoreView)
     (counts : Counts) (g : HostView) (d : C) (e : Option (List ℕ)) (new : StoreView) (is : left ≡ field ∷ others) (taken : TookSoFar o chosen all left s h c a b ops disk store counts) where
   so : FieldsSoFar (to_accept o chosen) all left s h c a b counts
   so = taken.so
@@ -262,6 +277,14 @@ pub all_took : {C : Type 0} (o : Way C) (chosen : Chosen) (all left : List Field
     → TookSoFar o chosen all left s h c a b ops disk store counts → FieldsTook (to_accept o chosen) all s (records.left h c a b) (storing ops [] disk store) counts
 all_took o chosen all left s h c a b ops disk store counts e taken =
     let same : taken.so.gone ≡ all = sym (taken.so.split ∙ ap (λ x. taken.so.gone ++ x) e ∙ append-nil taken.so.gone) in (
-      (taken.so.cases, taken.so.leads, subst (λ fs. FieldsChecked o chosen fs s taken.so.cases (at taken.so.leads c h.store.disk)) same taken.so.ran, taken.so.stands, taken.so.counted, taken.so.wrote),
+      (
+        taken.so.cases,
+        taken.so.leads,
+        subst (λ fs. FieldsChecked o chosen fs s taken.so.cases
+            (at taken.so.leads c h.store.disk)) same taken.so.ran,
+        taken.so.stands,
+        taken.so.counted,
+        taken.so.wrote,
+      ),
       taken.kept,
     )

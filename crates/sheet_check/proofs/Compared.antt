@@ -41,7 +41,8 @@ one_passed m field a counts none = ([], together.passed none, refl, Appends-nil 
 
 pub one_compared : (m : Comparing) (number : ℕ) (field : Field) (a b : Option (List ℕ)) (counts after : Counts) (j : Judgement) → is_chosen m.chosen field ≡ true
     → Judged m.chosen field (came_by m.world m.marks field.id) j.verdict → j.error ≡ brings_error (came_by m.world m.marks field.id)
-    → Appends a b (case_text m.format number (case field (came_by m.world m.marks field.id) (reason_shown_in m.world field.id) j.verdict None)) → number ≡ total counts + 1 → after ≡ counted_on (j ∷ []) counts
+    → Appends a b (case_text m.format number (case field (came_by m.world m.marks field.id) (reason_shown_in m.world field.id) j.verdict None))
+    → number ≡ total counts + 1 → after ≡ counted_on (j ∷ []) counts
     → FieldReported m field a b counts after
 one_compared m number field a b counts after j some judged error wrote place is =
     let one = case field (came_by m.world m.marks field.id) (reason_shown_in m.world field.id) j.verdict None in
@@ -69,7 +70,8 @@ pub none_compared : (m : Comparing) (all left : List Field) (a b : Option (List 
 none_compared m all left a b counts e is opened =
     record { gone = []; cases = []; split = sym e; ran = refl; counted = is; wrote = subst (Appends a b) (sym (append-nil (opening_text m.format))) opened }
 
-module _ (m : Comparing) (all left : List Field) (field : Field) (others : List Field) (a b e : Option (List ℕ)) (counts : Counts) (is : left ≡ field ∷ others) (so : ComparedSoFar m all left a b counts) where
+module _ (m : Comparing) (all left : List Field) (field : Field) (others : List Field) (a b e : Option (List ℕ)) (counts : Counts) (is : left ≡ field ∷ others)
+    (so : ComparedSoFar m all left a b counts) where
   pub more_compared : (after : Counts) → FieldReported m field b e counts after → ComparedSoFar m all others a e after
   more_compared after p = record {
     gone = so.gone ++ field ∷ [];
@@ -77,7 +79,8 @@ module _ (m : Comparing) (all left : List Field) (field : Field) (others : List 
     split = so.split ∙ ap (λ x. so.gone ++ x) is ∙ sym (append_assoc so.gone (field ∷ []) others);
     ran = compared-more m.chosen m.world m.marks so.gone field so.cases p.0 so.ran p.1;
     counted = p.2 ∙ ap (λ x. counted_on (judgements_of p.0) x) so.counted ∙ sym (cases-more so.cases p.0);
-    wrote = subst (Appends a e) (sym (front-more m.format so.cases p.0 counts so.counted)) (Appends-trans a b e (report_front m.format so.cases) (cases_text m.format (total counts + 1) p.0) so.wrote p.3);
+    wrote = subst (Appends a e) (sym (front-more m.format so.cases p.0 counts so.counted))
+        (Appends-trans a b e (report_front m.format so.cases) (cases_text m.format (total counts + 1) p.0) so.wrote p.3);
   }
 
   leaves : (why : RunFault) → Withheld b e why → LeavesReport m.format so.cases a e why
@@ -107,7 +110,8 @@ module _ {C : Type 0} (o : SideBySide C) (fields : List Field) (s : At C) (h : H
 
 -- Where it ends.
 
-module _ {C : Type 0} (o : SideBySide C) (sheet : Contents) (w : World) (h g : HostView) (copied : IsCopy (cleared o.chosen sheet.fields sheet) w h.store.disk) (c m d : C) (a b : Option (List ℕ)) (stops : StopsIn o.way.after g m d)
+module _ {C : Type 0} (o : SideBySide C) (sheet : Contents) (w : World) (h g : HostView) (copied : IsCopy (cleared o.chosen sheet.fields sheet) w h.store.disk)
+    (c m d : C) (a b : Option (List ℕ)) (stops : StopsIn o.way.after g m d)
     (numbered : StopsNumbered o.way.after g m d) where
   evaluated : (marks : List Mark) (came : CameTogether o sheet.fields (at w c h.store.disk) g m marks) → EvaluatedTogether o sheet c d came.0 marks
   evaluated marks came = record {

@@ -117,7 +117,8 @@ module _ {C : Type 0} (o : OneByOne C) (all left : List Field) (field : Field) (
     ran = fields-more o so.gone field s so.cases (at so.leads c h.store.disk) p.0 (at p.1 d g.store.disk) so.ran p.2;
     stands = p.3;
     counted = p.4 ∙ ap (λ x. counted_on (judgements_of p.0) x) so.counted ∙ sym (cases-more so.cases p.0);
-    wrote = subst (Appends a e) (sym (front-more o.format so.cases p.0 counts so.counted)) (Appends-trans a b e (report_front o.format so.cases) (cases_text o.format (total counts + 1) p.0) so.wrote p.5);
+    wrote = subst (Appends a e) (sym (front-more o.format so.cases p.0 counts so.counted))
+        (Appends-trans a b e (report_front o.format so.cases) (cases_text o.format (total counts + 1) p.0) so.wrote p.5);
   }
 
   pub leaves-on : (why : RunFault) → LeavesText b e [] why → LeavesText a e (report_front o.format so.cases) why

@@ -37,7 +37,8 @@ use Rattle.sheet_check.specs.inside.Checking as inside
 use Rattle.sheet_check.proofs.Ends.{StopsNumbered, first-stopped, text_left}
 use Rattle.sheet_check.proofs.Own.{never_open}
 
-module _ {C : Type 0} (o : Way C) (chosen : Chosen) (sheet : Contents) (w : World) (copy : DiskView) (h : HostView) (c mid d : C) (a b : Option (List ℕ)) (ops : List Op) (disk : DiskView) (store : StoreView) (stops : StopsIn o.after h mid d)
+module _ {C : Type 0} (o : Way C) (chosen : Chosen) (sheet : Contents) (w : World) (copy : DiskView) (h : HostView) (c mid d : C) (a b : Option (List ℕ))
+    (ops : List Op) (disk : DiskView) (store : StoreView) (stops : StopsIn o.after h mid d)
     (numbered : StopsNumbered o.after h mid d) where
   pub took_ended : (counts : Counts) → FieldsTook (to_accept o chosen) sheet.fields (at w c copy) (records.left h mid a b) (storing ops [] disk store) counts
       → (ended : FieldsEnded (to_accept o chosen) sheet.fields w copy (passage c d a b) counts) × PutAll (storing ops [] disk store) (accepted ended.0)
@@ -60,7 +61,8 @@ module _ {C : Type 0} (o : Way C) (chosen : Chosen) (sheet : Contents) (w : Worl
 
   early-left : IsCopy sheet w copy → (why : RunFault) → (p : FieldsFailed (to_accept o chosen) sheet.fields (at w c copy) (records.left h mid a b) why) → (why ≡ fault.Output → ⊥) → Stores ops (accepted p.cases) disk store
       → AcceptLeft (to_accept o chosen) sheet (passage c d a b) (filing ops disk store.disk) why
-  early-left copied why p withheld stores = left-by (first-stopped (to_accept o chosen) p.left p.mid h mid d stops numbered why p.failed) (text_left a b (report_front format.Accepting p.cases) why p.wrote withheld)
+  early-left copied why p withheld stores = left-by (first-stopped (to_accept o chosen) p.left p.mid h mid d stops numbered why p.failed)
+      (text_left a b (report_front format.Accepting p.cases) why p.wrote withheld)
     where
       led-to : (t : At C) → FirstLed (to_accept o chosen) p.left p.mid t → Stops o.after (running t.world) t.children d → SheetLed (to_accept o chosen) sheet c d p.cases
       led-to t so stopped =
@@ -80,7 +82,8 @@ module _ {C : Type 0} (o : Way C) (chosen : Chosen) (sheet : Contents) (w : Worl
   broke_left copied why (unwritten cases is checked stores) = ends.unwritten cases is (led-so copied cases checked) stores.disk
 
 -- The counts are reported, or not.
-module _ {C : Type 0} (o : Way C) (chosen : Chosen) (sheet : Contents) (w : World) (copy : DiskView) (copied : IsCopy sheet w copy) (c d : C) (a b e : Option (List ℕ)) (ops : List Op) (disk : DiskView) (store : StoreView) (nothing : Type 0) (counts : Counts)
+module _ {C : Type 0} (o : Way C) (chosen : Chosen) (sheet : Contents) (w : World) (copy : DiskView) (copied : IsCopy sheet w copy) (c d : C)
+    (a b e : Option (List ℕ)) (ops : List Op) (disk : DiskView) (store : StoreView) (nothing : Type 0) (counts : Counts)
     (p : (ended : FieldsEnded (to_accept o chosen) sheet.fields w copy (passage c d a b) counts) × PutAll (storing ops [] disk store) (accepted ended.0)) where
   pub counts_reported : Appends b e (closing_text format.Accepting counts) → SheetAccepts (to_accept o chosen) sheet (passage c d a e) nothing (filing ops disk store.disk) (Ok counts)
   counts_reported reported = (
@@ -93,7 +96,8 @@ module _ {C : Type 0} (o : Way C) (chosen : Chosen) (sheet : Contents) (w : Worl
       checked = p.0.2;
       stops = p.0.3;
       counted = p.0.4;
-      wrote = Appends-trans a b e (report_front format.Accepting p.0.0) (closing_text format.Accepting (counts_of (judgements_of p.0.0))) p.0.5 (subst (λ x. Appends b e (closing_text format.Accepting x)) p.0.4 reported);
+      wrote = Appends-trans a b e (report_front format.Accepting p.0.0) (closing_text format.Accepting (counts_of (judgements_of p.0.0))) p.0.5
+          (subst (λ x. Appends b e (closing_text format.Accepting x)) p.0.4 reported);
     },
     p.1.disk,
   )
@@ -128,7 +132,8 @@ module _ (disk : DiskView) (store : StoreView) (ops : List Op) (makes : Makes op
   pub opened_stores : InModel disk (Leaves (IsSheetImage store.sheet.contents) store.disk.history.now) → Stores ops [] store.disk store
   opened_stores images =
       let contents : store.sheet.contents ≡ sheet_of (ops ++ []) = makes.is ∙ ap sheet_of (sym (append-nil ops)) in
-      let here : InModel store.disk (Leaves (IsSheetImage (sheet_of (ops ++ []))) store.disk.history.now) = λ keeps. subst (λ (c : Contents). Leaves (IsSheetImage c) store.disk.history.now) contents (images (model keeps)) in
+      let here : InModel store.disk (Leaves (IsSheetImage (sheet_of (ops ++ []))) store.disk.history.now) = λ keeps. subst
+      (λ (c : Contents). Leaves (IsSheetImage c) store.disk.history.now) contents (images (model keeps)) in
       record {
         still_open = going;
         contents = contents;

@@ -31,7 +31,8 @@ room_left S false p q same = inl same
 
 -- The line is taken away at each end, also where there was no memory for a copy.
 pub counts_shown : {P : Type 0} (m : Display P) (all : ℕ) (p mid q : P) (F : Format) (a b : Option (List ℕ)) (answer : Option (Result Counts RunFault)) (result : Result Counts RunFault)
-    → IfSome answer (λ counted. SheetShows m all p mid counted) → IfSome answer (λ _. q ≡ mid) → IfNone answer ((mid ≡ p) × m.shows mid sight.Nothing q) → CountsWritten F a b answer result → SheetShows m all p q result
+    → IfSome answer (λ counted. SheetShows m all p mid counted) → IfSome answer (λ _. q ≡ mid) → IfNone answer ((mid ≡ p) × m.shows mid sight.Nothing q)
+    → CountsWritten F a b answer result → SheetShows m all p q result
 counts_shown m all p mid q F a b None result some same gone is =
     subst (SheetShows m all p q) (sym is) (p, (counts_of [], p, none, inl refl), subst (λ x. m.shows x sight.Nothing q) gone.0 gone.1)
 counts_shown m all p mid q F a b (Some (Ok counts)) result some same gone (inl (is, closing)) =

@@ -55,11 +55,13 @@ outcome_ahead V sheet first outcomes i o h is =
 pub one_outcome : (V : Voice) (sheet : Contents) (first : ℕ) (outcomes : List Outcome) (i : ℕ) (o : Outcome) (a b c : Option (List ℕ)) → i < length outcomes → o ≡ get_or outcomes i o
     → OutcomesWritten V sheet first outcomes i a b → Appends b c (V.reply (first + i) sheet o.reply) → OutcomesWritten V sheet first outcomes (i + 1) a c
 one_outcome V sheet first outcomes i o a b c h is before more =
-    part_written a b c (numbered_text V (first + i) sheet (drop i outcomes)) (V.reply (first + i) sheet o.reply) (numbered_text V (first + (i + 1)) sheet (drop (i + 1) outcomes)) (numbered_text V first sheet outcomes)
+    part_written a b c (numbered_text V (first + i) sheet (drop i outcomes)) (V.reply (first + i) sheet o.reply)
+    (numbered_text V (first + (i + 1)) sheet (drop (i + 1) outcomes)) (numbered_text V first sheet outcomes)
     (outcome_ahead V sheet first outcomes i o h is) before more
 
 pub cut_outcome : (V : Voice) (sheet : Contents) (first : ℕ) (outcomes : List Outcome) (i : ℕ) (o : Outcome) (a b c : Option (List ℕ)) → i < length outcomes → o ≡ get_or outcomes i o
     → OutcomesWritten V sheet first outcomes i a b → WroteFront b c (V.reply (first + i) sheet o.reply) → WroteFront a c (numbered_text V first sheet outcomes)
 cut_outcome V sheet first outcomes i o a b c h is before more =
-    front_ahead a b c (numbered_text V (first + i) sheet (drop i outcomes)) (V.reply (first + i) sheet o.reply) (numbered_text V (first + (i + 1)) sheet (drop (i + 1) outcomes)) (numbered_text V first sheet outcomes)
+    front_ahead a b c (numbered_text V (first + i) sheet (drop i outcomes)) (V.reply (first + i) sheet o.reply)
+    (numbered_text V (first + (i + 1)) sheet (drop (i + 1) outcomes)) (numbered_text V first sheet outcomes)
     (outcome_ahead V sheet first outcomes i o h is) before more

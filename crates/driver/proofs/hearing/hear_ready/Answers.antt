@@ -8,7 +8,8 @@ pub loop-init : goal.loop-init
 loop-init g c = heard_first (source_rules g.S.Children.after g.S.Sources.wakes g.S.Sources.clock) c.args.seat c.args.sources.now c.receive_event.new.children c.in_ok-first.first c.push_reserved.new.self.items c.in_ok-first.ensures.ok (c.push_reserved.ensures.items ∙ ap (λ l. l ++ c.in_ok-first.first ∷ []) (c.in_ok-reserve.ensures.items ∙ c.new-events.ensures.items))
 
 pub loop-preserved : goal.loop-preserved
-loop-preserved g c = let more = c.hear_next.ensures.more c.if-not-hear_next.false in heard_more (source_rules g.S.Children.after g.S.Sources.wakes g.S.Sources.clock) c.args.seat c.loop.counter c.args.sources.now c.loop.sources c.hear_next.new.sources c.loop.events.items c.hear_next.new.events.items more.0 c.loop.invariant more.1 more.2
+loop-preserved g c = let more = c.hear_next.ensures.more c.if-not-hear_next.false in heard_more
+    (source_rules g.S.Children.after g.S.Sources.wakes g.S.Sources.clock) c.args.seat c.loop.counter c.args.sources.now c.loop.sources c.hear_next.new.sources c.loop.events.items c.hear_next.new.events.items more.0 c.loop.invariant more.1 more.2
 
 pub returns-then-not-hear_next-clause-ok : goal.returns-then-not-hear_next-clause-ok
 returns-then-not-hear_next-clause-ok g c =

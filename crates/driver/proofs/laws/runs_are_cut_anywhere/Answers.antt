@@ -3,4 +3,6 @@ use Rattle.driver.proofs.Order.{cut_anywhere}
 use Rattle.driver.proofs.laws.runs_are_cut_anywhere.Goals as goal
 
 pub returns : goal.returns
-returns g c = λ p q todo left first last. cut_anywhere (rules (agenda_rules g.A.Agenda.rules g.A.Joins.joins) (source_rules g.S.Children.after g.S.Sources.wakes g.S.Sources.clock) g.K.Sink.rules) p q todo left first last
+returns g c =
+    let R = rules (agenda_rules g.A.Agenda.rules g.A.Joins.joins) (source_rules g.S.Children.after g.S.Sources.wakes g.S.Sources.clock) g.K.Sink.rules in
+    λ p q todo left first last. cut_anywhere R p q todo left first last

@@ -3,4 +3,6 @@ use Rattle.driver.proofs.Fronts.{leads_to}
 use Rattle.driver.proofs.laws.runs_lead.Goals as goal
 
 pub returns : goal.returns
-returns g c = λ p q todo left steps. leads_to (rules (agenda_rules g.A.Agenda.rules g.A.Joins.joins) (source_rules g.S.Children.after g.S.Sources.wakes g.S.Sources.clock) g.K.Sink.rules) p q todo left steps
+returns g c =
+    let R = rules (agenda_rules g.A.Agenda.rules g.A.Joins.joins) (source_rules g.S.Children.after g.S.Sources.wakes g.S.Sources.clock) g.K.Sink.rules in
+    λ p q todo left steps. leads_to R p q todo left steps

@@ -5,5 +5,6 @@ use Rattle.driver.proofs.voiced.print_lives.Goals as goal
 
 pub returns-in-Err-clause-cut : goal.returns-in-Err-clause-cut
 returns-in-Err-clause-cut g c = λ w h lacks.
-    front_of_each (λ o. lives_text g.T.Tells.voice w (spoken o.reply)) c.args.outcomes.now c.loop-outcome.outcome-index c.outcome-item.result (g.W.Write.contents c.args.writer.now) (g.W.Write.contents c.loop-outcome.writer) (g.W.Write.contents c.print_life.new.writer)
+    front_of_each (λ o. lives_text g.T.Tells.voice w (spoken o.reply)) c.args.outcomes.now c.loop-outcome.outcome-index c.outcome-item.result
+    (g.W.Write.contents c.args.writer.now) (g.W.Write.contents c.loop-outcome.writer) (g.W.Write.contents c.print_life.new.writer)
     c.loop-outcome-test.true c.outcome-item.is (c.loop-outcome.invariant w h) (c.in-Err.ensures.cut w h lacks)

@@ -9,6 +9,8 @@ placed_after-placed-requires c = placed_again c.args.sheet.now.contents.fields (
 
 pub loop-id-preserved : goal.loop-id-preserved
 loop-id-preserved c =
-    one_placed c.args.sheet.now.contents.fields c.args.ids.now c.loop-id.id-index (get_or c.args.ids.now c.loop-id.id-index 0) c.loop-id.all.items c.push.new.self.items c.placed_after-placed.result c.loop-id.invariant
+    one_placed c.args.sheet.now.contents.fields c.args.ids.now c.loop-id.id-index
+    (get_or c.args.ids.now c.loop-id.id-index 0) c.loop-id.all.items c.push.new.self.items c.placed_after-placed.result c.loop-id.invariant
     (slice_get-get_or c.args.ids.now c.loop-id.id-index 0 (grind (arith))) c.placed_after-placed.ensures.there
-    (c.placed_after-placed.ensures.round ∙ ap (λ l. round_of c.args.sheet.now.contents.fields (placed_ids l) (get_or c.args.ids.now c.loop-id.id-index 0)) c.as_slice.ensures.value) c.in_ok-push.ensures.items
+    (c.placed_after-placed.ensures.round ∙ ap (λ l. round_of c.args.sheet.now.contents.fields (placed_ids l)
+    (get_or c.args.ids.now c.loop-id.id-index 0)) c.as_slice.ensures.value) c.in_ok-push.ensures.items

@@ -11,7 +11,8 @@ returns-then-not-has-clause-ok g c = λ w h ops more disk stores.
 pub returns-in-Ok-clause-ok : goal.returns-in-Ok-clause-ok
 returns-in-Ok-clause-ok g c = λ w h ops more disk stores.
     checked_took (way g.C.Children.after g.C.Sources.clock g.C.Sources.wakes c.args.turn.now.manner.request.now.limit) c.args.turn.now.manner.request.now.chosen c.args.turn.now.field.now (at w c.args.driver.now.sources c.args.driver.now.host.store.disk) c.accept_shown.new.driver.host c.accept_shown.new.driver.sources (g.W.Write.contents c.args.writer.now)
-    (g.W.Write.contents c.accept_shown.new.writer) ops more disk c.accept_shown.new.store c.args.turn.now.counts c.counted.result c.in-Ok.judgement (sym c.has.ensures ∙ c.if-not-has.false) (c.in-Ok.ensures.ok w h ops more disk stores)
+    (g.W.Write.contents c.accept_shown.new.writer) ops more disk c.accept_shown.new.store c.args.turn.now.counts c.counted.result c.in-Ok.judgement
+    (sym c.has.ensures ∙ c.if-not-has.false) (c.in-Ok.ensures.ok w h ops more disk stores)
     c.counted.ensures.counted
 
 pub returns-in-Ok-clause-shown : goal.returns-in-Ok-clause-shown

@@ -19,7 +19,8 @@ loop-field-init g c =
     record {
       few = omega (arith, all, none);
       errors = omega (arith, none, ap (λ (n : Counts). n.errors) c.none-counts.ensures);
-      shown = none_shown format.Accepting g.P.Progress.shows (checked_count c.args.suite.now.manner.request.now.chosen c.args.suite.now.sheet.now.contents.fields) c.args.progress.now c.none-counts.result c.none-counts.ensures;
+      shown = none_shown format.Accepting g.P.Progress.shows
+          (checked_count c.args.suite.now.manner.request.now.chosen c.args.suite.now.sheet.now.contents.fields) c.args.progress.now c.none-counts.result c.none-counts.ensures;
       rest = ([], sym c.fields-fields.ensures);
       stands = c.requires.stands;
       written = λ at_once. at_once;
@@ -47,7 +48,8 @@ loop-field-preserved g c =
     record {
       few = omega (arith, one, was.few, c.in-Ok.ensures.bound);
       errors = c.in-Ok.ensures.errors;
-      shown = one_shown format.Accepting g.P.Progress.shows (checked_count c.args.suite.now.manner.request.now.chosen c.args.suite.now.sheet.now.contents.fields) c.args.progress.now c.loop-field.counts c.in-Ok.after c.loop-field.progress c.accept_field.new.progress was.shown
+      shown = one_shown format.Accepting g.P.Progress.shows
+          (checked_count c.args.suite.now.manner.request.now.chosen c.args.suite.now.sheet.now.contents.fields) c.args.progress.now c.loop-field.counts c.in-Ok.after c.loop-field.progress c.accept_field.new.progress was.shown
           (subst (λ all. FieldShown (display format.Accepting g.P.Progress.shows) all c.loop-field.counts c.in-Ok.after c.loop-field.progress c.accept_field.new.progress) c.count_checked-all.ensures c.in-Ok.ensures.shown);
       rest = (gone ++ c.in-Some.field.now ∷ [], was.rest.1 ∙ ap (λ (fs : List Field). gone ++ fs) c.in-Some.ensures.steps ∙ sym (append_assoc gone (c.in-Some.field.now ∷ []) c.next.new.self));
       stands = (took.0.1, took.0.3);
@@ -63,7 +65,8 @@ loop-field-preserved g c =
 pub returns-clause-ok : goal.returns-clause-ok
 returns-clause-ok g c = λ w h ops disk stores.
     all_took (way g.C.Children.after g.C.Sources.clock g.C.Sources.wakes c.args.suite.now.manner.request.now.limit) c.args.suite.now.manner.request.now.chosen c.args.suite.now.sheet.now.contents.fields c.loop-field.fields (at w c.args.driver.now.sources c.args.driver.now.host.store.disk) c.loop-field.driver.host c.loop-field.driver.sources
-    (g.W.Write.contents c.args.writer.now) (g.W.Write.contents c.loop-field.writer) ops disk c.loop-field.store c.loop-field.counts c.in_default.ensures.steps.0 (c.loop-field.invariant.runs w h ops disk stores)
+    (g.W.Write.contents c.args.writer.now) (g.W.Write.contents c.loop-field.writer) ops disk c.loop-field.store c.loop-field.counts c.in_default.ensures.steps.0
+    (c.loop-field.invariant.runs w h ops disk stores)
 
 pub returns-in-Err-clause-err : goal.returns-in-Err-clause-err
 returns-in-Err-clause-err g c = λ w h ops disk stores.

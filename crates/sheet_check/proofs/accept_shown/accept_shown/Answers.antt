@@ -37,7 +37,8 @@ pub take-requires-clause-short : goal.take-requires-clause-short
 take-requires-clause-short g c =
     let q = c.in-Ok.ensures.ok c.requires.stands.0 c.requires.stands.1 in
     let f = c.in-Some.ensures q.0 q.2 in
-    subst (λ (o : Option Answer). HasShortPrompt o) (sym f.taken) (short_in c.ops_make_worksheets.ensures c.evaluate.new.driver.host q.0 q.2 c.in-Ok.came.is_there c.args.turn.now.field.now.id c.in-Some.found.judgement.verdict)
+    subst (λ (o : Option Answer). HasShortPrompt o) (sym f.taken)
+    (short_in c.ops_make_worksheets.ensures c.evaluate.new.driver.host q.0 q.2 c.in-Ok.came.is_there c.args.turn.now.field.now.id c.in-Some.found.judgement.verdict)
 
 pub returns-in-Some-clause-ok : goal.returns-in-Some-clause-ok
 returns-in-Some-clause-ok g c = λ w h ops more disk stores.
@@ -47,7 +48,8 @@ returns-in-Some-clause-ok g c = λ w h ops more disk stores.
     let q = c.in-Ok.ensures.ok w h in
     let came = came_if c.in-Ok.came.is_there (shown_in q.0 c.args.turn.now.field.now.id) in
     IfOk-weaker c.take.result _ _
-    (λ j p. shown_took way_here c.args.turn.now.manner.request.now.chosen c.args.turn.now.field.now s c.evaluate.new.driver.host c.evaluate.new.driver.sources a (g.W.Write.contents c.take.new.writer) ops more disk c.take.new.store came c.in-Ok.came.took q.0 c.in-Some.found j
+    (λ j p. shown_took way_here c.args.turn.now.manner.request.now.chosen c.args.turn.now.field.now s c.evaluate.new.driver.host c.evaluate.new.driver.sources a
+    (g.W.Write.contents c.take.new.writer) ops more disk c.take.new.store came c.in-Ok.came.took q.0 c.in-Some.found j
     q.1 q.2 (c.in-Some.ensures q.0 q.2) p.0 p.1 p.2)
     (c.take.ensures.ok ops more disk stores)
 

@@ -22,4 +22,5 @@ returns-clause-err g c = λ w h.
 
 pub returns-clause-shown : goal.returns-clause-shown
 returns-clause-shown g c =
-    sheet_shows c.args.manner.now.request.now.format g.P.Progress.shows (checked_count c.args.manner.now.request.now.chosen c.args.sheet.now.contents.fields) c.args.progress.now c.check_fields-counted.result c.check_fields-counted.new.progress c.show.new.self c.check_fields-counted.ensures.shown c.check_fields-counted.ensures.left c.show.ensures
+    sheet_shows c.args.manner.now.request.now.format g.P.Progress.shows
+    (checked_count c.args.manner.now.request.now.chosen c.args.sheet.now.contents.fields) c.args.progress.now c.check_fields-counted.result c.check_fields-counted.new.progress c.show.new.self c.check_fields-counted.ensures.shown c.check_fields-counted.ensures.left c.show.ensures

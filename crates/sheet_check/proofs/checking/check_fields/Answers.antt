@@ -16,7 +16,8 @@ loop-field-init g c =
     record {
       few = omega (arith, all, none);
       errors = omega (arith, none, ap (λ (n : Counts). n.errors) c.none-counts.ensures);
-      shown = none_shown c.args.manner.now.request.now.format g.P.Progress.shows (checked_count c.args.manner.now.request.now.chosen c.args.sheet.now.contents.fields) c.args.progress.now c.none-counts.result c.none-counts.ensures;
+      shown = none_shown c.args.manner.now.request.now.format g.P.Progress.shows
+          (checked_count c.args.manner.now.request.now.chosen c.args.sheet.now.contents.fields) c.args.progress.now c.none-counts.result c.none-counts.ensures;
       runs = λ w h. none_checked (one_by_one (way g.C.Children.after g.C.Sources.clock g.C.Sources.wakes c.args.manner.now.request.now.limit) c.args.manner.now.request.now.chosen c.args.manner.now.request.now.format) c.args.sheet.now.contents.fields _ w c.args.driver.now.host c.args.driver.now.sources (g.W.Write.contents c.args.writer.now) (g.W.Write.contents c.tell_opening.new.writer) c.none-counts.result c.fields-fields.ensures c.none-counts.ensures h c.in_default.ensures.ok;
     }
 
@@ -32,7 +33,8 @@ loop-field-preserved g c =
     record {
       few = omega (arith, one, c.loop-field.invariant.few, c.in-Ok.ensures.bound);
       errors = c.in-Ok.ensures.errors;
-      shown = one_shown c.args.manner.now.request.now.format g.P.Progress.shows (checked_count c.args.manner.now.request.now.chosen c.args.sheet.now.contents.fields) c.args.progress.now c.loop-field.counts c.in-Ok.after c.loop-field.progress c.check_field.new.progress c.loop-field.invariant.shown
+      shown = one_shown c.args.manner.now.request.now.format g.P.Progress.shows
+          (checked_count c.args.manner.now.request.now.chosen c.args.sheet.now.contents.fields) c.args.progress.now c.loop-field.counts c.in-Ok.after c.loop-field.progress c.check_field.new.progress c.loop-field.invariant.shown
           (subst (λ all. FieldShown (display c.args.manner.now.request.now.format g.P.Progress.shows) all c.loop-field.counts c.in-Ok.after c.loop-field.progress c.check_field.new.progress) c.count_checked-all.ensures c.in-Ok.ensures.shown);
       runs = λ w h.
           let so = c.loop-field.invariant.runs w h in

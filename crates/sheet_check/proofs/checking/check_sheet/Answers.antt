@@ -14,5 +14,8 @@ returns-clause-checked g c =
 
 pub returns-clause-shown : goal.returns-clause-shown
 returns-clause-shown g c =
-    counts_shown (display c.args.manner.now.request.now.format g.P.Progress.shows) (checked_count c.args.manner.now.request.now.chosen c.args.sheet.now.contents.fields) c.args.progress.now c.checked_on_copy-answer.new.progress c.tell_counts.new.progress c.args.manner.now.request.now.format (g.W.Write.contents c.checked_on_copy-answer.new.writer) (g.W.Write.contents c.tell_counts.new.writer)
-    c.checked_on_copy-answer.result.answer c.tell_counts.result c.checked_on_copy-answer.ensures.shown c.tell_counts.ensures.some (none_of_both c.checked_on_copy-answer.result.answer c.checked_on_copy-answer.ensures.none c.tell_counts.ensures.none (λ x y. (x.2, y.1))) c.tell_counts.ensures.counts
+    counts_shown (display c.args.manner.now.request.now.format g.P.Progress.shows)
+    (checked_count c.args.manner.now.request.now.chosen c.args.sheet.now.contents.fields) c.args.progress.now c.checked_on_copy-answer.new.progress c.tell_counts.new.progress c.args.manner.now.request.now.format (g.W.Write.contents c.checked_on_copy-answer.new.writer) (g.W.Write.contents c.tell_counts.new.writer)
+    c.checked_on_copy-answer.result.answer c.tell_counts.result c.checked_on_copy-answer.ensures.shown c.tell_counts.ensures.some
+    (none_of_both c.checked_on_copy-answer.result.answer c.checked_on_copy-answer.ensures.none c.tell_counts.ensures.none
+    (λ x y. (x.2, y.1))) c.tell_counts.ensures.counts

@@ -21,9 +21,11 @@ returns-in-Ok-clause-ok g c = λ w h.
     let reported = subst (λ x. Judged c.args.turn.now.manner.request.now.chosen field (came_if x (shown_in w field.id)) c.in-Ok.judgement.verdict
     × (c.in-Ok.judgement.error ≡ brings_error (came_if x (shown_in w field.id)))
     × Appends (g.W.Write.contents c.args.writer.now) (g.W.Write.contents c.tell_what_came.new.writer)
-    (case_text c.args.turn.now.manner.request.now.format c.number.result (case field (came_if x (shown_in w field.id)) (reason_shown_in w field.id) c.in-Ok.judgement.verdict None))) in_time (c.in-Ok.ensures.ok w h) in
+    (case_text c.args.turn.now.manner.request.now.format c.number.result
+    (case field (came_if x (shown_in w field.id)) (reason_shown_in w field.id) c.in-Ok.judgement.verdict None))) in_time (c.in-Ok.ensures.ok w h) in
     let m = comparing c.args.turn.now.manner.request.now.chosen c.args.turn.now.manner.request.now.format w c.args.driver.now.sink.kept in
-    one_compared m c.number.result field (g.W.Write.contents c.args.writer.now) (g.W.Write.contents c.tell_what_came.new.writer) c.args.turn.now.counts c.counted.result c.in-Ok.judgement (sym c.has.ensures ∙ c.if-not-has.false)
+    one_compared m c.number.result field (g.W.Write.contents c.args.writer.now)
+    (g.W.Write.contents c.tell_what_came.new.writer) c.args.turn.now.counts c.counted.result c.in-Ok.judgement (sym c.has.ensures ∙ c.if-not-has.false)
     reported.0 reported.1 reported.2 c.number.ensures c.counted.ensures.counted
 
 pub returns-in-Ok-clause-shown : goal.returns-in-Ok-clause-shown

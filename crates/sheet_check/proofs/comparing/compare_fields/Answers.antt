@@ -15,7 +15,8 @@ loop-field-init g c =
     record {
       few = omega (arith, all, none);
       errors = omega (arith, none, ap (λ (n : Counts). n.errors) c.none-counts.ensures);
-      shown = none_shown c.args.manner.now.request.now.format g.P.Progress.shows (checked_count c.args.manner.now.request.now.chosen c.args.sheet.now.contents.fields) c.args.progress.now c.none-counts.result c.none-counts.ensures;
+      shown = none_shown c.args.manner.now.request.now.format g.P.Progress.shows
+          (checked_count c.args.manner.now.request.now.chosen c.args.sheet.now.contents.fields) c.args.progress.now c.none-counts.result c.none-counts.ensures;
       runs = λ w h. none_compared (comparing c.args.manner.now.request.now.chosen c.args.manner.now.request.now.format w c.args.driver.now.sink.kept) c.args.sheet.now.contents.fields _ (g.W.Write.contents c.args.writer.now) (g.W.Write.contents c.tell_opening.new.writer) c.none-counts.result c.fields-fields.ensures
           c.none-counts.ensures c.in_default.ensures.ok;
     }
@@ -32,7 +33,8 @@ loop-field-preserved g c =
     record {
       few = omega (arith, one, c.loop-field.invariant.few, c.in-Ok.ensures.bound);
       errors = c.in-Ok.ensures.errors;
-      shown = one_shown c.args.manner.now.request.now.format g.P.Progress.shows (checked_count c.args.manner.now.request.now.chosen c.args.sheet.now.contents.fields) c.args.progress.now c.loop-field.counts c.in-Ok.after c.loop-field.progress c.compare_field.new.progress c.loop-field.invariant.shown
+      shown = one_shown c.args.manner.now.request.now.format g.P.Progress.shows
+          (checked_count c.args.manner.now.request.now.chosen c.args.sheet.now.contents.fields) c.args.progress.now c.loop-field.counts c.in-Ok.after c.loop-field.progress c.compare_field.new.progress c.loop-field.invariant.shown
           (subst (λ all. FieldShown (display c.args.manner.now.request.now.format g.P.Progress.shows) all c.loop-field.counts c.in-Ok.after c.loop-field.progress c.compare_field.new.progress) c.count_checked-all.ensures c.in-Ok.ensures.shown);
       runs = λ w h.
           more_compared (comparing c.args.manner.now.request.now.chosen c.args.manner.now.request.now.format w c.args.driver.now.sink.kept) c.args.sheet.now.contents.fields c.loop-field.fields c.in-Some.field.now c.next.new.self (g.W.Write.contents c.args.writer.now) (g.W.Write.contents c.loop-field.writer) (g.W.Write.contents c.compare_field.new.writer)

@@ -15,5 +15,8 @@ returns-clause-checked g c =
 
 pub returns-clause-shown : goal.returns-clause-shown
 returns-clause-shown g c =
-    counts_shown (display c.args.beside.now.manner.request.now.format g.P.Progress.shows) (checked_count c.args.beside.now.manner.request.now.chosen c.args.sheet.now.contents.fields) c.args.progress.now c.together_on_copy-answer.new.progress c.tell_counts.new.progress c.args.beside.now.manner.request.now.format (g.W.Write.contents c.together_on_copy-answer.new.writer) (g.W.Write.contents c.tell_counts.new.writer)
-    c.together_on_copy-answer.result.answer c.tell_counts.result c.together_on_copy-answer.ensures.shown c.tell_counts.ensures.some (none_of_both c.together_on_copy-answer.result.answer c.together_on_copy-answer.ensures.none c.tell_counts.ensures.none (λ x y. (x.2, y.1))) c.tell_counts.ensures.counts
+    counts_shown (display c.args.beside.now.manner.request.now.format g.P.Progress.shows)
+    (checked_count c.args.beside.now.manner.request.now.chosen c.args.sheet.now.contents.fields) c.args.progress.now c.together_on_copy-answer.new.progress c.tell_counts.new.progress c.args.beside.now.manner.request.now.format (g.W.Write.contents c.together_on_copy-answer.new.writer) (g.W.Write.contents c.tell_counts.new.writer)
+    c.together_on_copy-answer.result.answer c.tell_counts.result c.together_on_copy-answer.ensures.shown c.tell_counts.ensures.some
+    (none_of_both c.together_on_copy-answer.result.answer c.together_on_copy-answer.ensures.none c.tell_counts.ensures.none
+    (λ x y. (x.2, y.1))) c.tell_counts.ensures.counts

@@ -10,7 +10,10 @@ use Rattle.tellings.proofs.in_json.write_default.Goals as goal
 pub returns-in-Some-clause-ok : goal.returns-in-Some-clause-ok
 returns-in-Some-clause-ok g c =
     let child = c.args.child.now in
-    subst (λ x. OnOk c.write_made.result (Appends (g.W.Write.contents c.args.writer.now) (g.W.Write.contents c.write_made.new.writer) (event_line child.name child.life (option_map (λ text. reported.input text) x)))) (sym c.in-Some.is)
-    (subst (λ name. OnOk c.write_made.result (Appends (g.W.Write.contents c.args.writer.now) (g.W.Write.contents c.write_made.new.writer) (telling_line (reported.event name child.life (reported.input c.in-Some.text))))) c.as_slice-name.ensures.bytes
-    (subst (λ text. OnOk c.write_made.result (Appends (g.W.Write.contents c.args.writer.now) (g.W.Write.contents c.write_made.new.writer) (telling_line (reported.event c.as_slice-name.result.now child.life (reported.input text))))) c.as_slice.ensures
+    subst (λ x. OnOk c.write_made.result (Appends (g.W.Write.contents c.args.writer.now) (g.W.Write.contents c.write_made.new.writer)
+    (event_line child.name child.life (option_map (λ text. reported.input text) x)))) (sym c.in-Some.is)
+    (subst (λ name. OnOk c.write_made.result (Appends (g.W.Write.contents c.args.writer.now) (g.W.Write.contents c.write_made.new.writer)
+    (telling_line (reported.event name child.life (reported.input c.in-Some.text))))) c.as_slice-name.ensures.bytes
+    (subst (λ text. OnOk c.write_made.result (Appends (g.W.Write.contents c.args.writer.now) (g.W.Write.contents c.write_made.new.writer)
+    (telling_line (reported.event c.as_slice-name.result.now child.life (reported.input text))))) c.as_slice.ensures
     (c.write_made.ensures.ok (reported.event c.as_slice-name.result.now child.life (reported.input c.as_slice.result.now)) c.default_value.ensures)))

@@ -11,6 +11,8 @@ use Rattle.tellings.proofs.in_json.write_ended.Goals as goal
 pub returns-in-Some-clause-ok : goal.returns-in-Some-clause-ok
 returns-in-Some-clause-ok g c =
     let child = c.args.child.now in
-    subst (λ x. OnOk c.write_made.result (Appends (g.W.Write.contents c.args.writer.now) (g.W.Write.contents c.write_made.new.writer) (event_line child.name child.life (option_map ended_event x)))) (sym c.in-Some.is)
-    (subst (λ name. OnOk c.write_made.result (Appends (g.W.Write.contents c.args.writer.now) (g.W.Write.contents c.write_made.new.writer) (telling_line (reported.event name child.life (ended_event c.in-Some.ended))))) c.as_slice-name.ensures.bytes
+    subst (λ x. OnOk c.write_made.result (Appends (g.W.Write.contents c.args.writer.now) (g.W.Write.contents c.write_made.new.writer)
+    (event_line child.name child.life (option_map ended_event x)))) (sym c.in-Some.is)
+    (subst (λ name. OnOk c.write_made.result (Appends (g.W.Write.contents c.args.writer.now) (g.W.Write.contents c.write_made.new.writer)
+    (telling_line (reported.event name child.life (ended_event c.in-Some.ended))))) c.as_slice-name.ensures.bytes
     (c.write_made.ensures.ok (reported.event c.as_slice-name.result.now child.life (ended_event c.in-Some.ended)) c.ended_value-value.ensures))

@@ -8,8 +8,11 @@ use Rattle.tellings.proofs.in_json.write_fault.Goals as goal
 
 pub returns : goal.returns
 returns g c = record {
-  ok = subst (λ n. OnOk c.write_made.result (Appends (g.W.Write.contents c.args.writer.now) (g.W.Write.contents c.write_made.new.writer) (telling_line (reported.fault n (fault_name c.args.why) (fault_offset c.args.why))))) c.number-number.ensures
-      (subst (λ name. OnOk c.write_made.result (Appends (g.W.Write.contents c.args.writer.now) (g.W.Write.contents c.write_made.new.writer) (telling_line (reported.fault c.number-number.result name (fault_offset c.args.why))))) c.name-name.ensures
-      (subst (λ offset. OnOk c.write_made.result (Appends (g.W.Write.contents c.args.writer.now) (g.W.Write.contents c.write_made.new.writer) (telling_line (reported.fault c.number-number.result c.name-name.result.now offset)))) c.offset-offset.ensures
+  ok = subst (λ n. OnOk c.write_made.result (Appends (g.W.Write.contents c.args.writer.now) (g.W.Write.contents c.write_made.new.writer)
+      (telling_line (reported.fault n (fault_name c.args.why) (fault_offset c.args.why))))) c.number-number.ensures
+      (subst (λ name. OnOk c.write_made.result (Appends (g.W.Write.contents c.args.writer.now) (g.W.Write.contents c.write_made.new.writer)
+      (telling_line (reported.fault c.number-number.result name (fault_offset c.args.why))))) c.name-name.ensures
+      (subst (λ offset. OnOk c.write_made.result (Appends (g.W.Write.contents c.args.writer.now) (g.W.Write.contents c.write_made.new.writer)
+      (telling_line (reported.fault c.number-number.result c.name-name.result.now offset)))) c.offset-offset.ensures
       (c.write_made.ensures.ok (reported.fault c.number-number.result c.name-name.result.now c.offset-offset.result) c.fault_value.ensures)));
 }

@@ -6,7 +6,11 @@ use Rattle.tellings.specs.Json.{counted_json}
 use Rattle.tellings.proofs.notes_json.write_counts.Goals as goal
 
 pub returns-in-None-clause-ok : goal.returns-in-None-clause-ok
-returns-in-None-clause-ok g c = subst (λ x. OnOk c.write_made.result (Appends (g.W.Write.contents c.args.writer.now) (g.W.Write.contents c.write_made.new.writer) (counted_json c.args.counts x))) (sym c.in-None.is) (c.write_made.ensures.ok (reported.counted c.args.counts.answered c.args.counts.unanswered c.args.counts.errors) c.counted_value.ensures)
+returns-in-None-clause-ok g c = subst (λ x. OnOk c.write_made.result
+    (Appends (g.W.Write.contents c.args.writer.now) (g.W.Write.contents c.write_made.new.writer) (counted_json c.args.counts x))) (sym c.in-None.is)
+    (c.write_made.ensures.ok (reported.counted c.args.counts.answered c.args.counts.unanswered c.args.counts.errors) c.counted_value.ensures)
 
 pub returns-in-Some-clause-ok : goal.returns-in-Some-clause-ok
-returns-in-Some-clause-ok g c = subst (λ x. OnOk c.write_made-in-Some.result (Appends (g.W.Write.contents c.args.writer.now) (g.W.Write.contents c.write_made-in-Some.new.writer) (counted_json c.args.counts x))) (sym c.in-Some.is) (c.write_made-in-Some.ensures.ok (reported.counted_in_time c.args.counts.answered c.args.counts.unanswered c.args.counts.errors c.in-Some.overs.over c.in-Some.overs.passed) c.counted_in_time_value-value.ensures)
+returns-in-Some-clause-ok g c = subst (λ x. OnOk c.write_made-in-Some.result
+    (Appends (g.W.Write.contents c.args.writer.now) (g.W.Write.contents c.write_made-in-Some.new.writer) (counted_json c.args.counts x))) (sym c.in-Some.is)
+    (c.write_made-in-Some.ensures.ok (reported.counted_in_time c.args.counts.answered c.args.counts.unanswered c.args.counts.errors c.in-Some.overs.over c.in-Some.overs.passed) c.counted_in_time_value-value.ensures)

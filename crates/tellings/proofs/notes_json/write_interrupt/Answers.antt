@@ -8,13 +8,21 @@ use Rattle.tellings.specs.Json.{interrupt_json}
 use Rattle.tellings.proofs.notes_json.write_interrupt.Goals as goal
 
 pub returns-in-NoSession-clause-ok : goal.returns-in-NoSession-clause-ok
-returns-in-NoSession-clause-ok g c = subst (λ x. OnOk c.write_made.result (Appends (g.W.Write.contents c.args.writer.now) (g.W.Write.contents c.write_made.new.writer) (interrupt_json c.args.line x))) (sym c.in-NoSession.is) (c.write_made.ensures.ok (reported.reply c.args.line (reported.refused refusal.NoSession)) c.refused_value.ensures)
+returns-in-NoSession-clause-ok g c = subst (λ x. OnOk c.write_made.result
+    (Appends (g.W.Write.contents c.args.writer.now) (g.W.Write.contents c.write_made.new.writer) (interrupt_json c.args.line x))) (sym c.in-NoSession.is)
+    (c.write_made.ensures.ok (reported.reply c.args.line (reported.refused refusal.NoSession)) c.refused_value.ensures)
 
 pub returns-in-Idle-clause-ok : goal.returns-in-Idle-clause-ok
-returns-in-Idle-clause-ok g c = subst (λ x. OnOk c.write_made-in-Idle.result (Appends (g.W.Write.contents c.args.writer.now) (g.W.Write.contents c.write_made-in-Idle.new.writer) (interrupt_json c.args.line x))) (sym c.in-Idle.is) (c.write_made-in-Idle.ensures.ok (reported.reply c.args.line (reported.interrupted (codes "idle"))) c.interrupted_value.ensures)
+returns-in-Idle-clause-ok g c = subst (λ x. OnOk c.write_made-in-Idle.result
+    (Appends (g.W.Write.contents c.args.writer.now) (g.W.Write.contents c.write_made-in-Idle.new.writer) (interrupt_json c.args.line x))) (sym c.in-Idle.is)
+    (c.write_made-in-Idle.ensures.ok (reported.reply c.args.line (reported.interrupted (codes "idle"))) c.interrupted_value.ensures)
 
 pub returns-in-Sent-clause-ok : goal.returns-in-Sent-clause-ok
-returns-in-Sent-clause-ok g c = subst (λ x. OnOk c.write_made-in-Sent.result (Appends (g.W.Write.contents c.args.writer.now) (g.W.Write.contents c.write_made-in-Sent.new.writer) (interrupt_json c.args.line x))) (sym c.in-Sent.is) (c.write_made-in-Sent.ensures.ok (reported.reply c.args.line (reported.interrupted (codes "sent"))) c.interrupted_value-in-Sent.ensures)
+returns-in-Sent-clause-ok g c = subst (λ x. OnOk c.write_made-in-Sent.result
+    (Appends (g.W.Write.contents c.args.writer.now) (g.W.Write.contents c.write_made-in-Sent.new.writer) (interrupt_json c.args.line x))) (sym c.in-Sent.is)
+    (c.write_made-in-Sent.ensures.ok (reported.reply c.args.line (reported.interrupted (codes "sent"))) c.interrupted_value-in-Sent.ensures)
 
 pub returns-in-Failed-clause-ok : goal.returns-in-Failed-clause-ok
-returns-in-Failed-clause-ok g c = subst (λ x. OnOk c.write_made-in-Failed.result (Appends (g.W.Write.contents c.args.writer.now) (g.W.Write.contents c.write_made-in-Failed.new.writer) (interrupt_json c.args.line x))) (sym c.in-Failed.is) (c.write_made-in-Failed.ensures.ok (reported.reply c.args.line (reported.interrupted (codes "failed"))) c.interrupted_value-in-Failed.ensures)
+returns-in-Failed-clause-ok g c = subst (λ x. OnOk c.write_made-in-Failed.result
+    (Appends (g.W.Write.contents c.args.writer.now) (g.W.Write.contents c.write_made-in-Failed.new.writer) (interrupt_json c.args.line x))) (sym c.in-Failed.is)
+    (c.write_made-in-Failed.ensures.ok (reported.reply c.args.line (reported.interrupted (codes "failed"))) c.interrupted_value-in-Failed.ensures)

@@ -8,5 +8,6 @@ use Rattle.tellings.proofs.sheets_json.write_part.Goals as goal
 
 pub returns-clause-ok : goal.returns-clause-ok
 returns-clause-ok g c = λ w h.
-    subst (λ waits. OnOk c.write_made.result (Appends (g.W.Write.contents c.args.writer.now) (g.W.Write.contents c.write_made.new.writer) (telling_line (reported.part c.args.line (field_reported waits c.args.field.now))))) (c.is_waiting-waits.ensures w h)
+    subst (λ waits. OnOk c.write_made.result (Appends (g.W.Write.contents c.args.writer.now) (g.W.Write.contents c.write_made.new.writer)
+    (telling_line (reported.part c.args.line (field_reported waits c.args.field.now))))) (c.is_waiting-waits.ensures w h)
     (c.write_made.ensures.ok (reported.part c.args.line (field_reported c.is_waiting-waits.result c.args.field.now)) c.part_value.ensures)

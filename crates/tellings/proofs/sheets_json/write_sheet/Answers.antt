@@ -11,17 +11,22 @@ use Rattle.tellings.proofs.sheets_json.write_sheet.Goals as goal
 
 pub returns-clause-ok : goal.returns-clause-ok
 returns-clause-ok g c = λ w h.
-    Appends-trans (g.W.Write.contents c.args.writer.now) (g.W.Write.contents c.write_parts.new.writer) (g.W.Write.contents c.write_made.new.writer) (parts_text c.args.line w (sheet_in w).fields) (telling_line (whole_reported c.args.line w))
-    (subst (λ s. Appends (g.W.Write.contents c.args.writer.now) (g.W.Write.contents c.write_parts.new.writer) (parts_text c.args.line w s.fields)) (c.sheet.ensures.stands w h) (c.in_ok-write_parts.ensures.ok w h))
+    Appends-trans (g.W.Write.contents c.args.writer.now) (g.W.Write.contents c.write_parts.new.writer) (g.W.Write.contents c.write_made.new.writer)
+    (parts_text c.args.line w (sheet_in w).fields) (telling_line (whole_reported c.args.line w))
+    (subst (λ s. Appends (g.W.Write.contents c.args.writer.now) (g.W.Write.contents c.write_parts.new.writer) (parts_text c.args.line w s.fields))
+    (c.sheet.ensures.stands w h) (c.in_ok-write_parts.ensures.ok w h))
     (c.in_ok-write_made.ensures.ok (whole_reported c.args.line w) (c.whole.ensures w h))
 
 pub returns-in_err-write_parts-clause-cut : goal.returns-in_err-write_parts-clause-cut
 returns-in_err-write_parts-clause-cut g c = λ w h. let p = err_from_is_err_and c.from_residual.result c.from_residual.ensures.1 in rw (p.1, p.2) (λ lacks.
     front_first (g.W.Write.contents c.args.writer.now) (g.W.Write.contents c.write_parts.new.writer) (parts_text c.args.line w (sheet_in w).fields) (telling_line (whole_reported c.args.line w))
-    (subst (λ s. WroteFront (g.W.Write.contents c.args.writer.now) (g.W.Write.contents c.write_parts.new.writer) (parts_text c.args.line w s.fields)) (c.sheet.ensures.stands w h) (c.in_err-write_parts.ensures.cut w h lacks)))
+    (subst (λ s. WroteFront (g.W.Write.contents c.args.writer.now) (g.W.Write.contents c.write_parts.new.writer) (parts_text c.args.line w s.fields))
+    (c.sheet.ensures.stands w h) (c.in_err-write_parts.ensures.cut w h lacks)))
 
 pub returns-in_err-write_made-clause-cut : goal.returns-in_err-write_made-clause-cut
 returns-in_err-write_made-clause-cut g c = λ w h. let p = err_from_is_err_and c.from_residual-in_err-write_made.result c.from_residual-in_err-write_made.ensures.1 in rw (p.1, p.2) (λ lacks.
-    front_then (g.W.Write.contents c.args.writer.now) (g.W.Write.contents c.write_parts.new.writer) (g.W.Write.contents c.write_made.new.writer) (parts_text c.args.line w (sheet_in w).fields) (telling_line (whole_reported c.args.line w))
-    (subst (λ s. Appends (g.W.Write.contents c.args.writer.now) (g.W.Write.contents c.write_parts.new.writer) (parts_text c.args.line w s.fields)) (c.sheet.ensures.stands w h) (c.in_ok-write_parts.ensures.ok w h))
+    front_then (g.W.Write.contents c.args.writer.now) (g.W.Write.contents c.write_parts.new.writer) (g.W.Write.contents c.write_made.new.writer)
+    (parts_text c.args.line w (sheet_in w).fields) (telling_line (whole_reported c.args.line w))
+    (subst (λ s. Appends (g.W.Write.contents c.args.writer.now) (g.W.Write.contents c.write_parts.new.writer) (parts_text c.args.line w s.fields))
+    (c.sheet.ensures.stands w h) (c.in_ok-write_parts.ensures.ok w h))
     (none_written g.W.Write.contents c.write_parts.new.writer c.write_made.new.writer _ (c.in_err-write_made.ensures.unwritten lacks)))

@@ -7,7 +7,19 @@ use Rattle.driver.proofs.Running.{did_fail, did_then}
 use Rattle.driver.proofs.driver.Driver.join_and_print.Goals as goal
 
 pub returns-in-Ok-clause-did : goal.returns-in-Ok-clause-did
-returns-in-Ok-clause-did g c = λ n rest w h. let first = c.in-Ok.ensures.did n rest w h in did_then (rules (agenda_rules g.A.Agenda.rules g.A.Joins.joins) (source_rules g.S.Children.after g.S.Sources.wakes g.S.Sources.clock) g.K.Sink.rules) (seen n w (parts c.args.self.now.host c.args.self.now.sources c.args.self.now.sink c.args.self.now.agenda)) (join c.args.events.items ∷ rest) (λ (x : GaveJoined). printing_joined x.first x.outcomes.items x.later.items x.replies.items rest) c.in-Ok.gave n (parts c.join.new.self.host c.join.new.self.sources c.join.new.self.sink c.join.new.self.agenda) (left_by_answer (λ done. rest)) c.print_all.result (n, (parts c.print_all.new.self.host c.print_all.new.self.sources c.print_all.new.self.sink c.print_all.new.self.agenda)) first (c.print_all.ensures.did n rest first.world first.stands)
+returns-in-Ok-clause-did g c =
+    let R = rules (agenda_rules g.A.Agenda.rules g.A.Joins.joins) (source_rules g.S.Children.after g.S.Sources.wakes g.S.Sources.clock) g.K.Sink.rules in
+    let here = parts c.args.self.now.host c.args.self.now.sources c.args.self.now.sink c.args.self.now.agenda in
+    λ n rest w h. let first = c.in-Ok.ensures.did n rest w h in did_then R (seen n w here) (join c.args.events.items ∷ rest)
+    (λ (x : GaveJoined). printing_joined x.first x.outcomes.items x.later.items x.replies.items rest) c.in-Ok.gave n
+    (parts c.join.new.self.host c.join.new.self.sources c.join.new.self.sink c.join.new.self.agenda) (left_by_answer (λ done. rest)) c.print_all.result
+    (n, (parts c.print_all.new.self.host c.print_all.new.self.sources c.print_all.new.self.sink c.print_all.new.self.agenda)) first
+    (c.print_all.ensures.did n rest first.world first.stands)
 
 pub returns-in-Err-clause-did : goal.returns-in-Err-clause-did
-returns-in-Err-clause-did g c = λ n rest w h. did_fail (rules (agenda_rules g.A.Agenda.rules g.A.Joins.joins) (source_rules g.S.Children.after g.S.Sources.wakes g.S.Sources.clock) g.K.Sink.rules) (seen n w (parts c.args.self.now.host c.args.self.now.sources c.args.self.now.sink c.args.self.now.agenda)) (join c.args.events.items ∷ rest) (λ (x : GaveJoined). printing_joined x.first x.outcomes.items x.later.items x.replies.items rest) (λ done. rest) c.in-Err.why (n, (parts c.join.new.self.host c.join.new.self.sources c.join.new.self.sink c.join.new.self.agenda)) (c.in-Err.ensures.did n rest w h)
+returns-in-Err-clause-did g c =
+    let R = rules (agenda_rules g.A.Agenda.rules g.A.Joins.joins) (source_rules g.S.Children.after g.S.Sources.wakes g.S.Sources.clock) g.K.Sink.rules in
+    let here = parts c.args.self.now.host c.args.self.now.sources c.args.self.now.sink c.args.self.now.agenda in
+    λ n rest w h. did_fail R (seen n w here) (join c.args.events.items ∷ rest)
+    (λ (x : GaveJoined). printing_joined x.first x.outcomes.items x.later.items x.replies.items rest) (λ done. rest) c.in-Err.why
+    (n, (parts c.join.new.self.host c.join.new.self.sources c.join.new.self.sink c.join.new.self.agenda)) (c.in-Err.ensures.did n rest w h)

@@ -4,4 +4,7 @@ use Rattle.driver.proofs.Doing.{did_print}
 use Rattle.driver.proofs.driver.Driver.print_lives.Goals as goal
 
 pub returns-clause-did : goal.returns-clause-did
-returns-clause-did g c = λ n rest w h. did_print (rules (agenda_rules g.A.Agenda.rules g.A.Joins.joins) (source_rules g.S.Children.after g.S.Sources.wakes g.S.Sources.clock) g.K.Sink.rules) n rest w c.args.self.now.host h c.args.self.now.sources c.args.self.now.sink c.lives.new.self c.args.self.now.agenda (lives c.args.outcomes.now) c.lives.result (c.lives.ensures.tries w h) c.lives.ensures.err (c.lives.ensures.cut w h)
+returns-clause-did g c =
+    let R = rules (agenda_rules g.A.Agenda.rules g.A.Joins.joins) (source_rules g.S.Children.after g.S.Sources.wakes g.S.Sources.clock) g.K.Sink.rules in
+    λ n rest w h. did_print R n rest w c.args.self.now.host h c.args.self.now.sources c.args.self.now.sink c.lives.new.self c.args.self.now.agenda
+    (lives c.args.outcomes.now) c.lives.result (c.lives.ensures.tries w h) c.lives.ensures.err (c.lives.ensures.cut w h)

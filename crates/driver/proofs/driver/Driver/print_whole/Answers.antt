@@ -16,14 +16,28 @@ pub print_refusal-requires-clause-few : goal.print_refusal-requires-clause-few
 print_refusal-requires-clause-few g c = omega (arith, c.len.ensures, subst (HasAtMost most_together) c.in-Refused.is c.requires.few)
 
 pub returns-in-Taken-clause-did : goal.returns-in-Taken-clause-did
-returns-in-Taken-clause-did g c = λ n rest w h.
-    subst (λ (x : Whole). DidSteps (rules (agenda_rules g.A.Agenda.rules g.A.Joins.joins) (source_rules g.S.Children.after g.S.Sources.wakes g.S.Sources.clock) g.K.Sink.rules) (seen n w (parts c.args.self.now.host c.args.self.now.sources c.args.self.now.sink c.args.self.now.agenda)) (printing_whole c.args.first x ++ rest) (left_by_answer (λ (done : Unit {0}). rest)) c.print_group.result (n, (parts c.print_group.new.self.host c.print_group.new.self.sources c.print_group.new.self.sink c.print_group.new.self.agenda))) (sym c.in-Taken.is)
-    (subst (λ (rs : List Reply). DidSteps (rules (agenda_rules g.A.Agenda.rules g.A.Joins.joins) (source_rules g.S.Children.after g.S.Sources.wakes g.S.Sources.clock) g.K.Sink.rules) (seen n w (parts c.args.self.now.host c.args.self.now.sources c.args.self.now.sink c.args.self.now.agenda)) (printing (Some c.args.first) c.in-Taken.outcomes.items rs ++ rest) (left_by_answer (λ (done : Unit {0}). rest)) c.print_group.result (n, (parts c.print_group.new.self.host c.print_group.new.self.sources c.print_group.new.self.sink c.print_group.new.self.agenda))) c.new-replies.ensures.items
+returns-in-Taken-clause-did g c =
+    let R = rules (agenda_rules g.A.Agenda.rules g.A.Joins.joins) (source_rules g.S.Children.after g.S.Sources.wakes g.S.Sources.clock) g.K.Sink.rules in
+    let here = parts c.args.self.now.host c.args.self.now.sources c.args.self.now.sink c.args.self.now.agenda in
+    λ n rest w h.
+    subst (λ (x : Whole). DidSteps R (seen n w here) (printing_whole c.args.first x ++ rest) (left_by_answer (λ (done : Unit {0}). rest)) c.print_group.result
+    (n, (parts c.print_group.new.self.host c.print_group.new.self.sources c.print_group.new.self.sink c.print_group.new.self.agenda))) (sym c.in-Taken.is)
+    (subst (λ (rs : List Reply). DidSteps R (seen n w here) (printing (Some c.args.first) c.in-Taken.outcomes.items rs ++ rest)
+    (left_by_answer (λ (done : Unit {0}). rest)) c.print_group.result
+    (n, (parts c.print_group.new.self.host c.print_group.new.self.sources c.print_group.new.self.sink c.print_group.new.self.agenda))) c.new-replies.ensures.items
     (c.print_group.ensures.did n rest w h))
 
 pub returns-in-Refused-clause-did : goal.returns-in-Refused-clause-did
-returns-in-Refused-clause-did g c = λ n rest w h.
+returns-in-Refused-clause-did g c =
+    let R = rules (agenda_rules g.A.Agenda.rules g.A.Joins.joins) (source_rules g.S.Children.after g.S.Sources.wakes g.S.Sources.clock) g.K.Sink.rules in
+    let here = parts c.args.self.now.host c.args.self.now.sources c.args.self.now.sink c.args.self.now.agenda in
+    λ n rest w h.
     let many : c.in-Refused.before.len ≡ length c.in-Refused.before.items = omega (arith, c.in-Refused.before.ok) in
-    subst (λ (x : Whole). DidSteps (rules (agenda_rules g.A.Agenda.rules g.A.Joins.joins) (source_rules g.S.Children.after g.S.Sources.wakes g.S.Sources.clock) g.K.Sink.rules) (seen n w (parts c.args.self.now.host c.args.self.now.sources c.args.self.now.sink c.args.self.now.agenda)) (printing_whole c.args.first x ++ rest) (left_by_answer (λ (done : Unit {0}). rest)) c.print_refusal.result (n, (parts c.print_refusal.new.self.host c.print_refusal.new.self.sources c.print_refusal.new.self.sink c.print_refusal.new.self.agenda))) (sym c.in-Refused.is)
-    (subst (λ (k : ℕ). DidSteps (rules (agenda_rules g.A.Agenda.rules g.A.Joins.joins) (source_rules g.S.Children.after g.S.Sources.wakes g.S.Sources.clock) g.K.Sink.rules) (seen n w (parts c.args.self.now.host c.args.self.now.sources c.args.self.now.sink c.args.self.now.agenda)) (printing (Some (c.args.first + k)) (c.in-Refused.last ∷ []) [] ++ rest) (left_by_answer (λ (done : Unit {0}). rest)) c.print_refusal.result (n, (parts c.print_refusal.new.self.host c.print_refusal.new.self.sources c.print_refusal.new.self.sink c.print_refusal.new.self.agenda))) (c.len.ensures ∙ many)
+    subst (λ (x : Whole). DidSteps R (seen n w here) (printing_whole c.args.first x ++ rest) (left_by_answer (λ (done : Unit {0}). rest)) c.print_refusal.result
+    (n, (parts c.print_refusal.new.self.host c.print_refusal.new.self.sources c.print_refusal.new.self.sink c.print_refusal.new.self.agenda)))
+    (sym c.in-Refused.is)
+    (subst (λ (k : ℕ). DidSteps R (seen n w here) (printing (Some (c.args.first + k)) (c.in-Refused.last ∷ []) [] ++ rest)
+    (left_by_answer (λ (done : Unit {0}). rest)) c.print_refusal.result
+    (n, (parts c.print_refusal.new.self.host c.print_refusal.new.self.sources c.print_refusal.new.self.sink c.print_refusal.new.self.agenda)))
+    (c.len.ensures ∙ many)
     (c.print_refusal.ensures.did n rest w h))

@@ -9,7 +9,11 @@ returns-in-Some g c = λ w h.
     let at = c.in-Some.at in
     let id = get_or a.ids at 0 in
     let there = read_at c.as_slice.result.now a.ids at c.as_slice.ensures c.in-Some.ensures.within in
-    asks at id (asked_there a.plan c.sheet.result.now.contents _ c.as_slice.result.now a.ids a.stand at id (c.sheet.ensures.stands w h) c.as_slice.ensures (c.in-Some.ensures.next id) there, inl c.requires.free)
+    asks at id (
+      asked_there a.plan c.sheet.result.now.contents _ c.as_slice.result.now a.ids a.stand at id (c.sheet.ensures.stands w h) c.as_slice.ensures
+          (c.in-Some.ensures.next id) there,
+      inl c.requires.free,
+    )
     (c.ask.ensures w id h there)
 
 pub returns-in-None : goal.returns-in-None

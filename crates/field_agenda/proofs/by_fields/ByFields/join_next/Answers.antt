@@ -10,5 +10,6 @@ returns-in-Some-clause-joins g c = λ w h.
     let at = c.in-Some.at in
     let id = get_or a.ids at 0 in
     let there = read_at a.ids a.ids at refl c.in-Some.ensures.within in
-    at_place c.join_from.result (λ (x : Joined). JoinsFrom a w at id (x.first, x.events.items) c.join_from.new.self) (λ (x : Joined). (k : ℕ) × (n : ℕ) × JoinsFrom a w k n (x.first, x.events.items) c.join_from.new.self)
+    at_place c.join_from.result (λ (x : Joined). JoinsFrom a w at id (x.first, x.events.items) c.join_from.new.self)
+    (λ (x : Joined). (k : ℕ) × (n : ℕ) × JoinsFrom a w k n (x.first, x.events.items) c.join_from.new.self)
     (λ x so. (at, id, so)) (c.join_from.ensures.joins w id h there (c.in-Some.ensures.may w id h there))

@@ -20,8 +20,16 @@ returns-in-Line g c = λ w h.
 
 pub returns-in-Interrupt : goal.returns-in-Interrupt
 returns-in-Interrupt g c = λ w h.
-    let before = lines_stand g.R.Read.remaining c.args.self.now in
-    (c.stop_if-self-in-Interrupt.result, subst (λ d. HeedsDone before w c.args.now (came_of c.args.came.now) d c.note_interrupted.result c.stop_if-self-in-Interrupt.result) (sym c.in-Interrupt.is) (c.note_interrupted.ensures ∙ ap (λ reported. interrupt_note (note.Interrupted before.number c.in-Interrupt.name) reported) c.interrupt_of.ensures, c.stop_if-self-in-Interrupt.ensures), refl)
+    let before = lines_stand g.R.Read.remaining c.args.self.now in (
+      c.stop_if-self-in-Interrupt.result,
+      subst (λ d. HeedsDone before w c.args.now
+          (came_of c.args.came.now) d c.note_interrupted.result c.stop_if-self-in-Interrupt.result) (sym c.in-Interrupt.is) (
+            c.note_interrupted.ensures ∙ ap (λ reported. interrupt_note
+                (note.Interrupted before.number c.in-Interrupt.name) reported) c.interrupt_of.ensures,
+            c.stop_if-self-in-Interrupt.ensures,
+          ),
+      refl,
+    )
 
 pub returns-in-Commands : goal.returns-in-Commands
 returns-in-Commands g c = λ w h.
@@ -35,8 +43,12 @@ returns-in-Commands g c = λ w h.
 pub returns-in-Transaction : goal.returns-in-Transaction
 returns-in-Transaction g c = λ w h.
     let before = lines_stand g.R.Read.remaining c.args.self.now in
-    let held = stop_if (before.manner.strict && refused_one (came_of c.args.came.now)) before.held in
-    (held, subst (λ d. HeedsDone before w c.args.now (came_of c.args.came.now) d c.heed_transaction.result held) (sym c.in-Transaction.is) (c.heed_transaction.ensures.note, refl), c.heed_transaction.ensures.stands)
+    let held = stop_if (before.manner.strict && refused_one (came_of c.args.came.now)) before.held in (
+      held,
+      subst (λ d. HeedsDone before w c.args.now (came_of c.args.came.now) d c.heed_transaction.result held) (sym c.in-Transaction.is)
+          (c.heed_transaction.ensures.note, refl),
+      c.heed_transaction.ensures.stands,
+    )
 
 pub returns-in-Life : goal.returns-in-Life
 returns-in-Life g c = λ w h.
@@ -48,8 +60,12 @@ pub returns-in-Warning : goal.returns-in-Warning
 returns-in-Warning g c = λ w h.
     let before = lines_stand g.R.Read.remaining c.args.self.now in (
       c.after_warning-self.result,
-      subst (λ d. HeedsDone before w c.args.now (came_of c.args.came.now) d c.note_warned.result c.after_warning-self.result) (sym c.in-Warning.is)
-          (c.note_warned.ensures ∙ ap (λ reported. interrupt_note (note.Warned c.in-Warning.seat) reported) c.interrupt_of-in-Warning.ensures, c.after_warning-self.ensures ∙ ap (λ late. after_warning before.manner.strict c.args.now late before.held) c.as_slice.ensures.value),
+      subst (λ d. HeedsDone before w c.args.now (came_of c.args.came.now) d c.note_warned.result c.after_warning-self.result) (sym c.in-Warning.is) (
+        c.note_warned.ensures ∙ ap (λ reported. interrupt_note
+            (note.Warned c.in-Warning.seat) reported) c.interrupt_of-in-Warning.ensures,
+        c.after_warning-self.ensures ∙ ap
+            (λ late. after_warning before.manner.strict c.args.now late before.held) c.as_slice.ensures.value,
+      ),
       refl,
     )
 

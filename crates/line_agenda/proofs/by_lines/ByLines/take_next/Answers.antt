@@ -34,4 +34,5 @@ returns-in-End g c = λ w h.
     let before = lines_stand g.R.Read.remaining c.args.self.now in
     let k = c.next.new.self.held in
     ended k c.end_input.result c.in-End.ensures.ready c.in-End.ensures.gives.1 refl
-    (subst (λ r. EndsInput before.transaction (read_to before k (g.R.Read.remaining r)) c.end_input.result (lines_stand g.R.Read.remaining c.end_input.new.self)) c.in-End.ensures.reader c.end_input.ensures)
+    (subst (λ r. EndsInput before.transaction (read_to before k (g.R.Read.remaining r)) c.end_input.result
+    (lines_stand g.R.Read.remaining c.end_input.new.self)) c.in-End.ensures.reader c.end_input.ensures)

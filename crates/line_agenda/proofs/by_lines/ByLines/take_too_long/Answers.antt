@@ -20,7 +20,8 @@ returns-in-None g c = λ w.
 pub returns-in-Some : goal.returns-in-Some
 returns-in-Some g c = λ w.
     let before = lines_stand g.R.Read.remaining c.args.self.now in
-    subst (λ b. TakesAlone (with_transaction before b) w c.args.now None c.follow-in-Some.result (lines_stand g.R.Read.remaining c.follow-in-Some.new.self)) (sym c.in-Some.is ∙ c.replace.ensures.value) (
+    subst (λ b. TakesAlone (with_transaction before b) w c.args.now None c.follow-in-Some.result (lines_stand g.R.Read.remaining c.follow-in-Some.new.self))
+    (sym c.in-Some.is ∙ c.replace.ensures.value) (
       c.break_at.result,
       c.break_at.ensures ∙ ap (λ n. breaks_transaction c.in-Some.transaction n) c.reading-at.ensures.number,
       c.follow-in-Some.ensures.turn,

@@ -19,4 +19,5 @@ returns c = λ going.
     let lines = none_given c.args.self.now.strict c.args.self.now.lines c.gather-edits.new.lines c.gather-edits.result c.gather-edits.ensures.gathers same in
     let number : c.gather-edits.new.number ≡ c.args.self.now.number = omega (arith, c.if-self-before.false) in
     subst (λ (l : List (List ℕ)). SaysOfLines (record (script_stand c.args.self.now) { lines = l }) c.take_next.result (script_stand c.take_next.new.self)) lines
-    (subst (λ (n : ℕ). SaysOfLines (record (script_stand c.args.self.now) { lines = c.gather-edits.new.lines; number = n }) c.take_next.result (script_stand c.take_next.new.self)) number (c.take_next.ensures going))
+    (subst (λ (n : ℕ). SaysOfLines (record (script_stand c.args.self.now) { lines = c.gather-edits.new.lines; number = n }) c.take_next.result
+    (script_stand c.take_next.new.self)) number (c.take_next.ensures going))

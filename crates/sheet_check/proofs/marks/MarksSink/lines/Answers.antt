@@ -5,7 +5,8 @@ use Rattle.sheet_check.proofs.marks.MarksSink.lines.Goals as goal
 
 pub returns-clause-tries : goal.returns-clause-tries
 returns-clause-tries g c = λ w h.
-    says_marks c.args.self.now c.keep_lines.new.self c.args._host.now.store.disk _ (line_marks c.args.outcomes.now) c.keep_lines.result (said_is w (report.lines c.args._first c.args.outcomes.now)) c.keep_lines.ensures.ok
+    says_marks c.args.self.now c.keep_lines.new.self c.args._host.now.store.disk _ (line_marks c.args.outcomes.now) c.keep_lines.result
+    (said_is w (report.lines c.args._first c.args.outcomes.now)) c.keep_lines.ensures.ok
 
 pub returns-clause-cut : goal.returns-clause-cut
 returns-clause-cut g c = λ w h.
