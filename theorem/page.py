@@ -30,7 +30,7 @@ PAGES = {
 }
 DEFINITIONS = "DEFINITIONS.md"
 HOST = "crates/session_engine/src/host.rt"
-CALLS = ("crates/host_laws/src/made.rt", "crates/theorem/src/lib.rt")  # laws that make the call that they speak of
+CALLS = ("crates/host_laws/src/made.rt", "crates/theorem/src/lib.rt", "crates/driver_visits/src/runs.rt")  # laws that make the call that they speak of
 PLACE = re.compile(r"\{(?:(?P<kind>clause \w+|law|mutant) (?P<word>\w+)|(?P<how>file |code )?(?P<module>\w+::|\w+(?:\.\w+)*\.)(?P<name>[\w']+))\}")
 
 # Definitions that the page links to in their files. What they say isn't needed: a definition that has them for words is followed by a law
@@ -60,6 +60,14 @@ EXPANDED: set[Key] = {
     ("driver_visits.Visits", "DrivenIsVisit"),
     ("driver_visits.Visits", "DurableAt"),
     ("driver_visits.Visits", "PrintedIsDurable"),
+    ("driver_visits.Runs", "Earlier"),
+    ("driver_visits.Runs", "LeftWith"),
+    ("driver_visits.Runs", "CrashesLeave"),
+    ("driver_visits.Runs", "OpeningLeaves"),
+    ("driver_visits.Runs", "unknown_reports"),
+    ("driver_visits.Runs", "LeavesPrinted"),
+    ("driver_visits.Runs", "LeavesPrefix"),
+    ("driver_visits.Runs", "RunsThenOpens"),
     ("driver_visits.Acceptances", "AtMostOneMore"),
     ("driver_visits.Acceptances", "LeftByAcceptance"),
     ("driver_visits.Acceptances", "closing_after"),

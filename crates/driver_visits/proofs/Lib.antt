@@ -1,3 +1,4 @@
 pub mod Accepting
+pub mod Leaving
 pub mod Parts
 pub mod Visiting

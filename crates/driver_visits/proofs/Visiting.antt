@@ -32,7 +32,7 @@ module _ {A C K : Type 0} (R : Rules A C K) (first last : ProgramParts A C K) (a
   abbrev at_end : RunPlace A C K
   at_end = record { asked = it.asked; agenda = last.agenda; world = it.world; disk = last.disk; sources = it.sources; sink = last.sink }
 
-  abbrev visit_by : (p : Parted start it.opened.now (trace it.steps) last.disk) → Visit (bytes_on first.disk) first.disk (turn_of it.steps p.events) last.disk
+  abbrev pub visit_by : (p : Parted start it.opened.now (trace it.steps) last.disk) → Visit (bytes_on first.disk) first.disk (turn_of it.steps p.events) last.disk
   visit_by p = record {
     ops = it.opened.ops;
     end = it.opened.end;
@@ -65,7 +65,8 @@ module _ {A C K : Type 0} (R : Rules A C K) (first last : ProgramParts A C K) (a
   has_all bs cs v es os i runs l = record {
     taken = events_of bs ++ l.done;
     lost = l.more;
-    split = ap (λ (x : List Event). x ++ es) (events_append bs cs) ∙ append_assoc (events_of bs) (events_of cs) es ∙ ap (λ (x : List Event). events_of bs ++ x) l.split ∙ sym (append_assoc (events_of bs) l.done l.more);
+    split = ap (λ (x : List Event). x ++ es) (events_append bs cs) ∙ append_assoc (events_of bs) (events_of cs) es ∙ ap
+        (λ (x : List Event). events_of bs ++ x) l.split ∙ sym (append_assoc (events_of bs) l.done l.more);
     withheld = l.outcomes;
     leads = l.leads;
     runs = runs_on start (events_of bs) (outcomes_of bs) v l.done l.outcomes l.leads runs l.runs;
@@ -90,6 +91,7 @@ module _ {A C K : Type 0} (R : Rules A C K) (first last : ProgramParts A C K) (a
         sink = so.sink;
         tries = so.tries;
         since = subst (λ (l : List Entry). LeavesOnly (HasReported start (events_of l ++ tail.events) (outcomes_of (trace before))) there.disk.history last.disk.history) (sym same)
-            (weakens (LeftAmong there.world (events_of (trace after) ++ tail.events) (outcomes_of (trace after) ++ m.0)) (HasReported start (events_of (trace before ++ trace after) ++ tail.events) (outcomes_of (trace before)))
+            (weakens (LeftAmong there.world (events_of (trace after) ++ tail.events) (outcomes_of (trace after) ++ m.0))
+            (HasReported start (events_of (trace before ++ trace after) ++ tail.events) (outcomes_of (trace before)))
             there.disk.history last.disk.history (λ i l. has_all (trace before) (trace after) there.world tail.events (outcomes_of (trace after) ++ m.0) i so.course.runs l) (m.1 kept));
       }

@@ -1,2 +1,3 @@
 pub mod Acceptances
+pub mod Runs
 pub mod Visits

@@ -14,9 +14,12 @@ ghost use Rattle.driver_visits.specs.Acceptances.{AcceptancesAreFiled};
 ghost use Rattle.driver_visits.specs.Visits.{DrivenIsVisit, PrintedIsDurable};
 ghost use Rattle.sheet_check.specs.Evaluated.{way};
 
+mod runs;
+
 use arrivals::Sources;
 use driver::{Agenda, Sink, Stamped};
 use evaluation::Programs;
+pub use runs::{RanThenOpened, run_then_open};
 use std::io::Write;
 use tellings::Tells;
 

@@ -1,0 +1,105 @@
+-- What a run leaves, after whatever invocations there were.
+use Rattle.std.proofs.Common.{◌≡◌, List, [], ◌∷◌, ◌++◌, refl, sym, subst, IsTrue, ℕ}
+use Rattle.std.specs.Prelude.{Result, length}
+use Rattle.std.proofs.Math.Nat.{le_refl}
+use Rattle.disk_model.specs.Disk.{DiskView, History, Image, IsImage, Looks, bytes_on}
+use Rattle.journal.specs.declared.journal.OpenFault.{OpenFault}
+use Rattle.session_engine.specs.World.{world_at_opening}
+use Rattle.session_engine.specs.Host.{HostView}
+use Rattle.host_laws.specs.Turns.{HostTurn, HostsInTurn}
+use Rattle.child_edge.specs.Moments.{outcomes_of}
+use Rattle.offline_programs.specs.declared.fault.RunFault.{RunFault}
+use Rattle.theorem.specs.Story.{CrashedSince, Opens}
+use Rattle.theorem.specs.Programs.{Invocations, OpensAfterPrograms, cut_off, cut_since, ended, looked, no_more}
+use Rattle.theorem.proofs.Reported.{opening_leaves}
+use Rattle.theorem.proofs.Visits.{invocations_left}
+use Rattle.driver.specs.Reports.{Report}
+use Rattle.driver.specs.Items.{RunStep, ask, printed}
+use Rattle.driver.specs.Place.{Rules}
+use Rattle.driver.specs.Laws.{trace}
+use Rattle.driver.specs.Runs.{left_at_end}
+use Rattle.driver.specs.Over.{Over, ProgramParts, RanOver, first_place, not_opened, program_parts, ran_over}
+use Rattle.driver_visits.specs.Runs.{CrashesLeave, Earlier, LeavesPrefix, LeavesPrinted, LeftWith, OpeningLeaves, RunsThenOpens, ran, unknown_reports, unopened}
+use Rattle.driver_visits.specs.Visits.{turn_of}
+use Rattle.driver_visits.proofs.Parts.{Parted, parted}
+use Rattle.driver_visits.proofs.Visiting.{durable_at, visit_by}
+
+-- invocations after invocations
+pub followed : (room : ℕ) (before mid after : Image) (turns more : List HostTurn) → Invocations room before turns mid → Invocations room mid more after
+    → Invocations room before (turns ++ more) after
+followed room before mid after turns more no_more then = then
+followed room before mid after turns more (looked {mid = between} disk back restarted looks crashed rest) then =
+    looked {mid = between} disk back restarted looks crashed (followed room between mid after turns more rest then)
+followed room before mid after turns more (cut_off {mid = between} {turn = turn} {turns = others} disk back same v crashed rest) then =
+    cut_off {mid = between} {turn = turn} {turns = others ++ more} disk back same v crashed (followed room between mid after others more rest then)
+followed room before mid after turns more (cut_since {mid = between} {turn = turn} {turns = others} disk back same v reported at kept crashed rest) then =
+    cut_since {mid = between} {turn = turn} {turns = others ++ more} disk back same v reported at kept crashed (followed room between mid after others more rest then)
+followed room before mid after turns more (ended {mid = between} {turn = turn} {turns = others} disk back same v crashed rest) then =
+    ended {mid = between} {turn = turn} {turns = others ++ more} disk back same v crashed (followed room between mid after others more rest then)
+
+module _ {A C K : Type 0} (hosts : HostsInTurn) (R : Rules A C K) (first last : ProgramParts A C K) (answer : Result (Unit {0}) RunFault)
+    (it : RanOver R first last answer) (model : IsTrue first.disk.keeps_model) (e : Earlier first.disk) where
+  left_with : (turn : HostTurn) (after : Image) → Invocations first.disk.room (bytes_on first.disk) (turn ∷ []) after → LeftWith e turn after
+  left_with turn after last_one =
+      let all = followed first.disk.room e.image (bytes_on first.disk) after e.turns (turn ∷ []) e.came last_one in
+      record { goes_on = all; left = invocations_left hosts first.disk.room e.ops e.image after (e.turns ++ turn ∷ []) e.allowed e.found all }
+
+  abbrev whole : Parted (world_at_opening it.opened.ops first.disk.room it.opened.end) it.opened.now (trace it.steps) last.disk
+  whole = parted R (first_place first it.opened) (record { asked = it.asked; agenda = last.agenda; world = it.world; disk = last.disk; sources = it.sources; sink = last.sink }) (ask ∷ []) (left_at_end answer) it.steps it.ran
+
+  pub within : CrashesLeave e (unknown_reports (turn_of it.steps whole.events)) it.opened.now.history last.disk.history
+  within after crashed = left_with (unknown_reports (turn_of it.steps whole.events)) after
+      (cut_off {turn = turn_of it.steps whole.events} first.disk last.disk refl (visit_by R first last answer it model whole) crashed no_more)
+
+  pub has_ended : CrashesLeave e (turn_of it.steps whole.events) last.disk.history last.disk.history
+  has_ended after crashed = left_with (turn_of it.steps whole.events) after (ended first.disk last.disk refl (visit_by R first last answer it model whole) crashed no_more)
+
+  pub printed_is : (done rest : List RunStep) (r : Report) → it.steps ≡ done ++ printed r ∷ rest → LeavesPrinted R first last answer it e done r
+  printed_is done rest r is =
+      let d = durable_at R first last answer it model done rest r is in record {
+        there = d.there;
+        to_do = d.to_do;
+        ran = d.ran;
+        sink = d.sink;
+        tries = d.tries;
+        unreported = d.unreported;
+        since = λ after crashed. left_with (record { events = (turn_of it.steps d.unreported).events; reported = outcomes_of (trace done) }) after
+            (cut_since {turn = turn_of it.steps d.unreported} first.disk last.disk refl d.visit (outcomes_of (trace done)) d.there.disk.history d.since crashed no_more);
+      }
+
+  pub opening : OpeningLeaves first.disk it.opened.now.history
+  opening restarted after crashed = opening_leaves (bytes_on first.disk) first.disk it.opened.now after restarted (it.opened.looks model) crashed
+
+-- A crash that comes now leaves what a read gives, among others.
+abbrev pub crashed_now : (h : History) (i : Image) → IsImage h.now i → CrashedSince h h i
+crashed_now h i image = record { moment = length h.past; state = h.now; at = record { later = []; earlier = h.past; states = refl; moment_is = refl }; since = le_refl (length h.past); leaves = image }
+
+module _ {A C K D : Type 0} (hosts : HostsInTurn) (R : Rules A C K) (first : ProgramParts A C K) (sources : C) (sink : K) (agenda : A)
+    (opened : Result HostView (OpenFault D)) (model : IsTrue first.disk.keeps_model) where
+  abbrev given_back : DiskView → ProgramParts A C K
+  given_back disk = program_parts disk sources sink agenda
+
+  leaves_prefix : (disk : DiskView) (answer : Result (Unit {0}) RunFault) (it : RanOver R first (given_back disk) answer) → IsTrue disk.keeps_model → IsImage disk.history.now (bytes_on disk)
+      → OpensAfterPrograms disk opened → (e : Earlier first.disk) → LeavesPrefix R first (given_back disk) answer opened it e
+  leaves_prefix disk answer it kept image after e =
+      let turn = turn_of it.steps (whole hosts R first (given_back disk) answer it model e).events in
+      let left = has_ended hosts R first (given_back disk) answer it model e (bytes_on disk) (crashed_now disk.history (bytes_on disk) image) in record {
+        unreported = (whole hosts R first (given_back disk) answer it model e).events;
+        opening = opening hosts R first (given_back disk) answer it model e;
+        within = within hosts R first (given_back disk) answer it model e;
+        printed_is = printed_is hosts R first (given_back disk) answer it model e;
+        ended = has_ended hosts R first (given_back disk) answer it model e;
+        opens = after kept first.disk.room e.ops e.image (e.turns ++ turn ∷ []) e.allowed e.found left.goes_on;
+      }
+
+  still_opens : (disk : DiskView) → IsTrue disk.keeps_model → Looks first.disk.history disk.history → OpensAfterPrograms disk opened → (e : Earlier first.disk)
+      → Opens first.disk.room e.ops e.image (bytes_on disk) e.turns opened
+  still_opens disk kept looks after e =
+      after kept first.disk.room e.ops e.image e.turns e.allowed e.found (subst (λ (i : Image). Invocations first.disk.room e.image e.turns i) (sym looks.content) e.came)
+
+  pub runs_then_opens : (disk : DiskView) (answer : Result (Unit {0}) RunFault) → Over R first (given_back disk) answer → IsTrue disk.keeps_model → IsImage disk.history.now (bytes_on disk)
+      → OpensAfterPrograms disk opened → RunsThenOpens R first sources sink agenda opened answer
+  runs_then_opens disk answer (ran_over reported it) kept image after = ran reported disk it (leaves_prefix disk reported it kept image after)
+  runs_then_opens disk answer (not_opened why was) kept image after = unopened why disk was
+      (λ restarted crash crashed. opening_leaves (bytes_on first.disk) first.disk disk crash restarted (was.looks model) crashed)
+      (still_opens disk kept (was.looks model) after)

@@ -1,0 +1,83 @@
+-- One run of a program, after whatever invocations there were: what a crash at any moment of it leaves, and what opens when it has ended. So the contract
+-- of `run_over`, the laws of this crate and the theorem are one statement. (docs/trust/THEOREM.md; premises A1 to A7 in the README of crate `theorem`.)
+use Rattle.std.specs.Prelude.{◌≡◌, IsTrue, List, [], ◌∷◌, ◌++◌, true, Result, Err}
+use Rattle.disk_model.specs.Disk.{DiskView, History, Image, IsRestarted, bytes_on}
+use Rattle.journal.specs.declared.journal.OpenFault.{OpenFault}
+use Rattle.journal.specs.declared.opening.OpenCause.{OpenCause}
+use Rattle.worksheet.specs.declared.op.Op.{Op}
+use Rattle.worksheet.specs.Ops.{sheet_of}
+use Rattle.worksheet.specs.Checks.{Allowed}
+use Rattle.recovery.specs.Sheets.{IsSheetImage}
+use Rattle.host_events.specs.declared.event.Event.{Event}
+use Rattle.session_engine.specs.Host.{HostView}
+use Rattle.host_laws.specs.Turns.{HostTurn, LeftInTurn}
+use Rattle.child_edge.specs.Moments.{outcomes_of}
+use Rattle.theorem.specs.Story.{CrashedSince, Opens}
+use Rattle.theorem.specs.Programs.{Invocations}
+use Rattle.offline_programs.specs.declared.fault.RunFault.{RunFault}
+use Rattle.offline_programs.specs.declared.fault.RunFault.TheVariants as fault
+use Rattle.driver.specs.Reports.{Report, printed_text}
+use Rattle.driver.specs.Items.{Item, RunStep, ask, printed}
+use Rattle.driver.specs.Place.{RunPlace, Rules, Tries}
+use Rattle.driver.specs.Steps.{Run}
+use Rattle.driver.specs.Laws.{trace}
+use Rattle.driver.specs.Over.{ProgramParts, RanOver, WasNotOpened, first_place, program_parts}
+use Rattle.driver_visits.specs.Visits.{turn_of}
+
+-- What was there before a run: an image of a worksheet of allowed ops at first (A2), and invocations that led from it to the bytes that are read
+-- on this disk now (A3 to A5).
+pub record Earlier (disk : DiskView) : Type 0 where
+  pub ops : List Op
+  pub image : Image
+  pub turns : List HostTurn
+  pub allowed : Allowed ops
+  pub found : IsSheetImage (sheet_of ops) image
+  pub came : Invocations disk.room image turns (bytes_on disk)
+
+-- With this turn as the last the invocations led to this image. It is one of the worksheet after a prefix of the events of each of them, with all that
+-- each reported; and an answer in it was there at first, or is the whole block that answered its line.
+pub record LeftWith {disk : DiskView} (e : Earlier disk) (turn : HostTurn) (after : Image) : Type 0 where
+  pub goes_on : Invocations disk.room e.image (e.turns ++ turn ∷ []) after
+  pub left : LeftInTurn disk.room e.ops e.image after (e.turns ++ turn ∷ [])
+
+-- wherever a crash comes from this moment of the disk to that one (A5), it leaves such an image
+abbrev pub CrashesLeave : {disk : DiskView} → Earlier disk → HostTurn → History → History → Type 0
+CrashesLeave e turn from to = (after : Image) → CrashedSince from to after → LeftWith e turn after
+
+-- A crash while the worksheet is opened leaves what was there, on a disk that was restarted.
+abbrev pub OpeningLeaves : DiskView → History → Type 0
+OpeningLeaves disk opened = IsRestarted (bytes_on disk) disk → (after : Image) → CrashedSince disk.history opened after → after ≡ bytes_on disk
+
+-- this turn, of which it isn't known what it reported
+abbrev pub unknown_reports : HostTurn → HostTurn
+unknown_reports turn = record { events = turn.events; reported = [] }
+
+-- This was printed where these steps, the first of the run, had led. A crash since its text was tried leaves the events of all these steps: they are
+-- among what was reported, by the turn that has these events at its end of which nothing was.
+pub record LeavesPrinted {A C K : Type 0} (R : Rules A C K) (first last : ProgramParts A C K) (answer : Result (Unit {0}) RunFault) (it : RanOver R first last answer) (e : Earlier first.disk) (done : List RunStep) (r : Report) : Type 0 where
+  pub there : RunPlace A C K
+  pub to_do : List Item
+  pub ran : Run R (first_place first it.opened) (ask ∷ []) done to_do there
+  pub sink : K
+  pub tries : Tries R.sink there.sink there.disk (printed_text R.sink.voice there.world r) true sink
+  pub unreported : List Event
+  pub since : CrashesLeave e (record { events = (turn_of it.steps unreported).events; reported = outcomes_of (trace done) }) there.disk.history last.disk.history
+
+-- A crash at any moment of a run that opened the worksheet leaves the worksheet after a prefix of its events, which has all that was printed by then;
+-- and what is opened on the disk that the run gave back is the worksheet with all that it reported.
+pub record LeavesPrefix {A C K D : Type 0} (R : Rules A C K) (first last : ProgramParts A C K) (answer : Result (Unit {0}) RunFault) (opened : Result HostView (OpenFault D)) (it : RanOver R first last answer) (e : Earlier first.disk) : Type 0 where
+  -- events that it took last, of which nothing was reported
+  pub unreported : List Event
+  pub opening : OpeningLeaves first.disk it.opened.now.history
+  pub within : CrashesLeave e (unknown_reports (turn_of it.steps unreported)) it.opened.now.history last.disk.history
+  pub printed_is : (done rest : List RunStep) (r : Report) → it.steps ≡ done ++ printed r ∷ rest → LeavesPrinted R first last answer it e done r
+  pub ended : CrashesLeave e (turn_of it.steps unreported) last.disk.history last.disk.history
+  pub opens : Opens first.disk.room e.ops e.image (bytes_on last.disk) (e.turns ++ turn_of it.steps unreported ∷ []) opened
+
+-- What a run over a disk, and an opening after it, came to: it ran, and leaves that; or it didn't open the worksheet, left what was there, and that is
+-- what is opened, unless it fails again.
+pub data RunsThenOpens {A C K D : Type 0} (R : Rules A C K) (first : ProgramParts A C K) (sources : C) (sink : K) (agenda : A) (opened : Result HostView (OpenFault D)) : Result (Unit {0}) RunFault → Type 0 where
+  ran : (answer : Result (Unit {0}) RunFault) (disk : DiskView) (it : RanOver R first (program_parts disk sources sink agenda) answer)
+      → ((e : Earlier first.disk) → LeavesPrefix R first (program_parts disk sources sink agenda) answer opened it e) → RunsThenOpens R first sources sink agenda opened answer
+  unopened : (why : OpenCause) (disk : DiskView) → WasNotOpened first (program_parts disk sources sink agenda) why → OpeningLeaves first.disk disk.history
+      → ((e : Earlier first.disk) → Opens first.disk.room e.ops e.image (bytes_on disk) e.turns opened) → RunsThenOpens R first sources sink agenda opened (Err (fault.Open why))
