@@ -43,7 +43,7 @@ pub trait Sources: Children {
     /// The sources, and what their clock may read while they stand so.
     ghost clock: { Self → ℕ → Type 0 };
 
-    /// Milliseconds since some moment of its own, which never goes back.
+    /// Milliseconds since some moment of its own. The system's clock never goes back, but for a 0 where it can't be read.
     fn now(&self) -> u64
         ensures { clock self.now result };
 

@@ -40,7 +40,7 @@ use Rattle.driver.proofs.Running.{did_break, did_more, did_one, run_join}
 
 module _ {A C K : Type 0} (R : Rules A C K) (n : ℕ) (rest : List Item) (w : World) (h : HostView) (stands : IsHost h w) where
   pub did_print : (c : C) (k l : K) (a : A) (s : Report) (r : Result (Unit {0}) RunFault) → Tries R.sink k h.store.disk (printed_text R.sink.voice w s) (is_ok r) l → IfErr r (IsWithheld R.sink.voice)
-      → IfErr r (CutShort (R.sink.written k) (R.sink.written l) (printed_text R.sink.voice w s))
+      → IfErr r (CutShort R.sink.voice.in_lines (R.sink.written k) (R.sink.written l) (printed_text R.sink.voice w s))
       → DidSteps R (seen n w (parts h c k a)) (print s ∷ rest) (left_by_answer (λ done. rest)) r (n, parts h c l a)
   did_print c k l a s (Ok done) tries is cut =
       did_one R (seen n w (parts h c k a)) (print s ∷ rest) (printed s) (left_by_answer (λ done. rest)) (Ok done) w (n, parts h c l a) (prints s l rest tries) stands

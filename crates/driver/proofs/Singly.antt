@@ -25,7 +25,7 @@ use Rattle.driver.specs.Items.{Item, carried, carry, printing, receive, received
 use Rattle.driver.specs.Place.{RunPlace, Rules}
 use Rattle.driver.specs.Steps.{Fails, broken_alone, carries, fault_of_edits, lost_edits, receives, takes_alone, takes_edits, unreceived, untaken_edits}
 use Rattle.driver.specs.Runs.{DidSteps, Parts, left_by_answer, lost_there, parts, seen, stopped, works}
-use Rattle.driver.proofs.Running.{did_break, did_fail, did_more, did_one}
+use Rattle.driver.proofs.Running.{did_break, did_more, did_one}
 
 -- nothing is due
 pub nothing_due : {A C K : Type 0} (R : Rules A C K) (n : ℕ) (rest : List Item) (p : RunPlace A C K) (todo : List Item) (due : Option Event) (x : Parts A C K) → due ≡ None

@@ -44,7 +44,7 @@ pub record TurnRules (A : Type 0) : Type 1 where
   pub woken : A → Woken → A → Type 0
   pub heeds : A → World → ℕ → TurnCame → Option Note → A → Type 0
 
--- What it may do: that, and what it says joins events of lives that were taken and aren't durable yet.
+-- What an agenda may do: all of that, and which events it lets join those of lives that were taken and aren't durable yet.
 pub record AgendaRules (A : Type 0) : Type 1 where
   pub says : A → World → ℕ → Result Turn RunFault → A → Type 0
   pub woken : A → Woken → A → Type 0
@@ -80,4 +80,4 @@ pub record Tries {K : Type 0} (R : SinkRules K) (k : K) (disk : DiskView) (text 
 -- A text was tried, and not all of it went out. Where there was no memory for it, a beginning of it did.
 pub record TriesInVain {K : Type 0} (R : SinkRules K) (k : K) (disk : DiskView) (text : List ℕ) (why : RunFault) (l : K) : Type 0 where
   pub tried : R.tried k disk text false l
-  pub cut : CutShort (R.written k) (R.written l) text why
+  pub cut : CutShort R.voice.in_lines (R.written k) (R.written l) text why

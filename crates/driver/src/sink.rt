@@ -39,7 +39,7 @@ pub trait Sink {
             (report.lines first outcomes.now)) (is_ok result) self.new }
         ensures err { IfErr result (IsWithheld rules.voice) }
         ensures cut { (w : World) → IsHost host.now w
-            → IfErr result (CutShort (rules.written self.old) (rules.written self.new)
+            → IfErr result (CutShort rules.voice.in_lines (rules.written self.old) (rules.written self.new)
             (printed_text rules.voice w (report.lines first outcomes.now))) };
 
     /// Prints what events gave whose lines have no number, those of lives and of a script, and flushes nothing: `followed` comes
@@ -50,7 +50,7 @@ pub trait Sink {
             (report.lives outcomes.now)) (is_ok result) self.new }
         ensures err { IfErr result (IsWithheld rules.voice) }
         ensures cut { (w : World) → IsHost host.now w
-            → IfErr result (CutShort (rules.written self.old) (rules.written self.new)
+            → IfErr result (CutShort rules.voice.in_lines (rules.written self.old) (rules.written self.new)
             (printed_text rules.voice w (report.lives outcomes.now))) };
 
     /// Prints the replies to what followed effects.
@@ -60,7 +60,7 @@ pub trait Sink {
             (report.followed replies.now)) (is_ok result) self.new }
         ensures err { IfErr result (IsWithheld rules.voice) }
         ensures cut { (w : World) → IsHost host.now w
-            → IfErr result (CutShort (rules.written self.old) (rules.written self.new)
+            → IfErr result (CutShort rules.voice.in_lines (rules.written self.old) (rules.written self.new)
             (printed_text rules.voice w (report.followed replies.now))) };
 
     /// Prints this.
@@ -70,7 +70,7 @@ pub trait Sink {
             (report.shown show)) (is_ok result) self.new }
         ensures err { IfErr result (IsWithheld rules.voice) }
         ensures cut { (w : World) → IsHost host.now w
-            → IfErr result (CutShort (rules.written self.old) (rules.written self.new)
+            → IfErr result (CutShort rules.voice.in_lines (rules.written self.old) (rules.written self.new)
             (printed_text rules.voice w (report.shown show))) };
 
     /// Prints a fault, last of all. Whether that went out.

@@ -12,7 +12,7 @@ use worksheet::Name;
 pub enum Turn {
     /// No more: the run is at its end.
     End,
-    /// Nothing now: the agenda read its own input, and is asked again.
+    /// Nothing for the driver: the agenda did a thing of its own, as reading its input or beginning a wait, and is asked again.
     Nothing,
     /// The sources are watched, where the input stands so, for so many milliseconds at most where there is a limit.
     Watch(Input, Option<u64>),

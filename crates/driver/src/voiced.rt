@@ -37,7 +37,7 @@ fn print_life<D: Disk, T: Tells, W: Write>(
         (lives_text T.voice w (spoken outcome.now.reply))) }
     ensures err { IfErr result (IsWithheld T.voice) }
     ensures cut { (w : World) → IsHost host.now w
-        → IfErr result (CutShort (W.contents writer.old) (W.contents writer.new)
+        → IfErr result (CutShort T.voice.in_lines (W.contents writer.old) (W.contents writer.new)
         (lives_text T.voice w (spoken outcome.now.reply))) }
 {
     match &outcome.reply {
@@ -58,7 +58,7 @@ fn print_lives<D: Disk, T: Tells, W: Write>(
         (lives_report T.voice w outcomes.now)) }
     ensures err { IfErr result (IsWithheld T.voice) }
     ensures cut { (w : World) → IsHost host.now w
-        → IfErr result (CutShort (W.contents writer.old) (W.contents writer.new)
+        → IfErr result (CutShort T.voice.in_lines (W.contents writer.old) (W.contents writer.new)
         (lives_report T.voice w outcomes.now)) }
 {
     for outcome in outcomes {

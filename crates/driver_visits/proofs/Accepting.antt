@@ -2,7 +2,6 @@
 use Rattle.std.proofs.Common.{◌≡◌, ◌∙◌, inl, inr, ℕ, List, [], ◌∷◌, ◌++◌, Option, refl, sym, ap, subst, append-nil, append_assoc, IsTrue, Some, None}
 use Rattle.std.specs.Prelude.{Result, Ok, Err}
 use Rattle.std.specs.Io.KnownBytes.{Appends}
-use Rattle.std.proofs.KnownBytes.{Appends-nil}
 use Rattle.disk_model.specs.Disk.{DiskView, Image, bytes_on}
 use Rattle.disk_model.specs.inside.Moments.{started, weakens}
 use Rattle.worksheet.specs.declared.op.Op.{Op}
@@ -10,7 +9,7 @@ use Rattle.worksheet.specs.declared.field.Answer.{Answer}
 use Rattle.worksheet.specs.Contents.{Contents}
 use Rattle.worksheet.specs.Ops.{sheet_of}
 use Rattle.recovery.specs.Sheets.{IsEither, IsSheetImage}
-use Rattle.theorem.specs.Acts.{AreAnswers, Files, HasFirst, PutsAnswer}
+use Rattle.theorem.specs.Acts.{AreAnswers, HasFirst, PutsAnswer}
 use Rattle.offline_programs.specs.declared.fault.RunFault.{RunFault}
 use Rattle.offline_programs.specs.declared.fault.RunFault.TheVariants as fault
 use Rattle.check_report.specs.declared.chosen.Chosen.{Chosen}

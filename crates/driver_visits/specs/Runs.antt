@@ -1,6 +1,6 @@
 -- One run of a program, after whatever invocations there were: what a crash at any moment of it leaves, and what opens when it has ended. So the contract
 -- of `run_over`, the laws of this crate and the theorem are one statement. (docs/trust/THEOREM.md; premises A1 to A7 in the README of crate `theorem`.)
-use Rattle.std.specs.Prelude.{◌≡◌, IsTrue, List, [], ◌∷◌, ◌++◌, true, Result, Err}
+use Rattle.std.specs.Prelude.{◌≡◌, List, [], ◌∷◌, ◌++◌, true, Result, Err}
 use Rattle.disk_model.specs.Disk.{DiskView, History, Image, IsRestarted, bytes_on}
 use Rattle.journal.specs.declared.journal.OpenFault.{OpenFault}
 use Rattle.journal.specs.declared.opening.OpenCause.{OpenCause}

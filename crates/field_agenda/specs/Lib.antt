@@ -8,3 +8,4 @@ pub mod FieldsRules
 pub mod FieldLines
 pub mod Stages
 pub mod LooksFirst
+pub mod inside

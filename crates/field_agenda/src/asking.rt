@@ -176,7 +176,7 @@ fn first_at(held: Hold, first: usize, at: usize) -> usize
     if is_held(held) { first } else { at }
 }
 
-/// The place after these fields, which are asked from this place on: these are then asked last.
+/// How the evaluation stands when these fields, from this place on, were asked together; `lasts` has the field asked last of each session.
 pub(crate) fn asked_together(stand: &Stand, at: usize, group: &[u32], lasts: Vec<Last>) -> Stand
     requires few { at + length group.now < 2 ^ 64 }
     requires counted { stand.now.asked + length group.now < 2 ^ 64 }

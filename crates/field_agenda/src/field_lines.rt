@@ -39,7 +39,7 @@ fn tell_one<T: Tells, W: Write>(
     ensures ok { OnOk result (Appends (W.contents writer.old) (W.contents writer.new)
         (T.voice.reply (lines.line_of_field field) sheet.now.contents outcome.now.reply)) }
     ensures err { IfErr result (IsWithheld T.voice) }
-    ensures cut { IfErr result (CutShort (W.contents writer.old) (W.contents writer.new)
+    ensures cut { IfErr result (CutShort T.voice.in_lines (W.contents writer.old) (W.contents writer.new)
         (T.voice.reply (lines.line_of_field field) sheet.now.contents outcome.now.reply)) }
 {
     tells.outcomes(line_of(field), sheet, slice::from_ref(outcome), writer)
@@ -57,7 +57,7 @@ fn tell_each<T: Tells, W: Write>(
     ensures ok { OnOk result (Appends (W.contents writer.old) (W.contents writer.new)
         (numbered_text (lines.by_field_lines T.voice) first sheet.now.contents outcomes.now)) }
     ensures err { IfErr result (IsWithheld T.voice) }
-    ensures cut { IfErr result (CutShort (W.contents writer.old) (W.contents writer.new)
+    ensures cut { IfErr result (CutShort T.voice.in_lines (W.contents writer.old) (W.contents writer.new)
         (numbered_text (lines.by_field_lines T.voice) first sheet.now.contents outcomes.now)) }
 {
     let mut field = first;
@@ -70,8 +70,11 @@ fn tell_each<T: Tells, W: Write>(
 
 impl<T: Tells> Tells for FieldLines<T> {
     ghost use Rattle.field_agenda.specs.FieldLines.{by_field_lines};
+    ghost use Rattle.field_agenda.specs.inside.Lines.{fields_keep_to_lines};
 
     ghost voice = { by_field_lines T.voice };
+
+    ghost to_lines = { fields_keep_to_lines T.voice T.to_lines };
 
     fn frame<W: Write>(&self, frame: Frame, writer: &mut W) -> Result<(), RunFault> {
         self.tells.frame(frame, writer)

@@ -156,14 +156,14 @@ pub(crate) fn choose_in_transaction(
     }
 }
 
-/// Whether one of these outcomes is.
+/// Whether one of these outcomes is a refusal.
 fn any_refusal(outcomes: &[Outcome]) -> bool
     ensures { result ≡ list_any groups.is_refusal outcomes.now }
 {
     outcomes.iter().any(|outcome| is_refusal(outcome))
 }
 
-/// Whether one of these outcomes or of those is.
+/// Whether one of these outcomes, or one of those later, is a refusal.
 #[tactic(auto, using(crate::proofs::Both::any_of_both))]
 fn any_refusal_of_both(outcomes: &[Outcome], later: &[Outcome]) -> bool
     ensures { result ≡ list_any groups.is_refusal (outcomes.now ++ later.now) }

@@ -2,7 +2,6 @@
 use Rattle.std.proofs.Common.{◌≡◌, ◌∙◌, ℕ, List, [], ◌∷◌, ◌++◌, ap, refl, sym, subst, append_assoc, Ok, Err}
 use Rattle.std.specs.Prelude.{Option, None, Result, Some}
 use Rattle.host_events.specs.declared.event.Event.{Event}
-use Rattle.host_events.specs.declared.outcome.Outcome.{Outcome}
 use Rattle.session_engine.specs.World.{World}
 use Rattle.session_engine.specs.Joining.{ToBeTaken, alone, asking, with_more}
 use Rattle.child_edge.specs.Faithful.{Entry}
@@ -16,7 +15,7 @@ use Rattle.driver.specs.Place.{RunPlace, SinkRules, SourceRules, rules}
 use Rattle.driver.specs.Steps.{Fails, Goes, Run}
 use Rattle.driver.specs.Steps as step
 use Rattle.script_agenda.specs.InOrder.{TookLines}
-use Rattle.script_agenda.specs.Says.{LineAsks, SaysOfLines, SaysIn, ScriptSays, TakesOneLine, WaitSays, as_group, at_end, by_itself, next_life, next_round, skips, stopped, uncounted, unlisted, wait_over}
+use Rattle.script_agenda.specs.Says.{LineAsks, SaysOfLines, SaysIn, TakesOneLine, WaitSays, as_group, at_end, by_itself, next_life, next_round, skips, stopped, uncounted, unlisted, wait_over}
 use Rattle.script_agenda.specs.ScriptAt.{ScriptAt, after_one_line}
 use Rattle.script_agenda.specs.ScriptRules.{ScriptJoins, script_rules}
 

@@ -1,7 +1,5 @@
 //! The agenda of a script.
-ghost use Rattle.std.specs.Prelude.{◌≡◌, ◌&&◌, [], None, false};
-ghost use Rattle.session_engine.specs.World.{World};
-ghost use Rattle.session_engine.specs.Host.{IsHost};
+ghost use Rattle.std.specs.Prelude.{◌≡◌, ◌&&◌, None, false};
 ghost use Rattle.script_agenda.specs.ScriptAt as standing;
 
 use arrivals::Woken;

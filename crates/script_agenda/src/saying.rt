@@ -31,7 +31,7 @@ fn ask_life(rounds: u32, seat: Seat) -> Turn
 
 impl<'a> ByScript<'a> {
     ghost use Rattle.script_agenda.specs.Says.{LineAsks, SaysOfLines, ScriptSays, TakesOneLine, WaitSays};
-    ghost use Rattle.script_agenda.specs.ScriptAt.{after_one_line, script_stand, waiting, with_round};
+    ghost use Rattle.script_agenda.specs.ScriptAt.{script_stand, with_round};
 
     /// The next life that is still to be heard in this round.
     fn next_in_round(&mut self) -> Option<Seat>

@@ -91,12 +91,13 @@ says_marks k l disk text marks (Err why) is kept = record { tried = tt; appends 
 
 -- where there was no memory for them, a beginning of them was kept
 pub cut_marks : (k l : Marks) (text : List ℕ) (marks : List Mark) (r : Result (Unit {0}) RunFault) → text ≡ numbers_of marks → IfErr r (λ why. KeptFront k.kept l.kept marks)
-    → IfErr r (CutShort (Some (numbers_of k.kept)) (Some (numbers_of l.kept)) text)
+    → IfErr r (CutShort false (Some (numbers_of k.kept)) (Some (numbers_of l.kept)) text)
 cut_marks k l text marks (Ok done) is cut = tt
 cut_marks k l text marks (Err why) is cut = λ lacks. record {
   front = numbers_of cut.front;
   rest = numbers_of cut.rest;
   split = sym (numbers-more cut.front cut.rest) ∙ ap numbers_of cut.split ∙ sym is;
+  lines = λ so. absurd (true≢false (sym so));
   wrote = ap numbers_of cut.kept ∙ numbers-more k.kept cut.front;
 }
 

@@ -1,5 +1,5 @@
 -- The opening of a copy, and the stops after its evaluation.
-use Rattle.std.proofs.Common.{◌≡◌, List, refl, subst}
+use Rattle.std.proofs.Common.{List, refl, subst}
 use Rattle.disk_model.specs.Disk.{DiskView, InModel, Looks, bytes_on}
 use Rattle.worksheet.specs.declared.op.Op.{Op}
 use Rattle.recovery.specs.Sheets.{IsSheetImage}

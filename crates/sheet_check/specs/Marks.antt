@@ -100,7 +100,7 @@ numbers_of marks = map number_of marks
 
 -- A voice that says marks alone, to a sink that keeps them.
 abbrev pub mark_voice : Voice
-mark_voice = record { frame = λ f. []; note = λ n. numbers_of (note_marks n); reply = λ line sheet r. numbers_of (reply_marks r); came = λ w r. []; sheet = λ line w. []; field = λ line id w. []; exported = λ line format sheet. []; fault = λ why. []; takes_memory = true }
+mark_voice = record { frame = λ f. []; note = λ n. numbers_of (note_marks n); reply = λ line sheet r. numbers_of (reply_marks r); came = λ w r. []; sheet = λ line w. []; field = λ line id w. []; exported = λ line format sheet. []; fault = λ why. []; takes_memory = true; in_lines = false }
 
 -- what such a sink may do
 abbrev pub mark_rules : SinkRules Marks

@@ -289,8 +289,8 @@ pub(crate) fn accept_sheet<S: Disk, C: Sources, W: Write, P: Progress>(
 /// `Open` where the disk isn't opened, `NoField` where the worksheet lacks a field whose number is left out or
 /// compared: nothing was done. `Host(JournalFull)` where an answer doesn't fit
 /// on the disk, or on that of the copy; `Host(Disk)` where the disk failed: one answer more than was reported
-/// may be on it. `Output` where the writer fails: the same. `OutOfMemory`, and `Host` of another fault
-/// of the copy's host: what was reported is on the disk, and no more.
+/// may be on it. `Output` where the writer fails: the same. `OutOfMemory`, `Host` of another fault of the copy's
+/// host, and `Input` and `InputTooLong` as of `check`: what was reported is on the disk, and no more.
 pub fn check_accepting<D: Disk, C: Sources, W: Write, P: Progress>(
     manner: &Manner<'_>,
     disk: D,

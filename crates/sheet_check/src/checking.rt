@@ -257,7 +257,7 @@ pub(crate) fn check_sheet<C: Sources, W: Write, P: Progress>(
 /// What a check answers, and the disk and the sources that it was given.
 #[derive(Drop)]
 pub struct Checked<D: Disk, C> {
-    /// The disk, on which reads alone were made.
+    /// The disk: only read, or by `check_accepting` also written.
     pub disk: D,
     pub sources: C,
     /// How many evaluations came to what, or why the check ended early.

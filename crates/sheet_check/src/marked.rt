@@ -24,7 +24,7 @@ fn is_asked(mark: Mark) -> bool
     }
 }
 
-/// Whether it says that there was no memory for one.
+/// Whether the mark says that there was no memory for a mark.
 fn is_no_memory(mark: Mark) -> bool
     ensures { result ≡ marked.is_no_memory mark }
 {
@@ -55,7 +55,7 @@ pub(crate) fn was_asked(marks: &[Mark]) -> bool
     marks.iter().any(|mark| is_asked(*mark))
 }
 
-/// Whether there was no memory for one.
+/// Whether there was no memory for one of these marks.
 pub(crate) fn lacked_memory(marks: &[Mark]) -> bool
     ensures { result ≡ marked.lacked_memory marks.now }
 {

@@ -1,5 +1,5 @@
 -- What the voices write.
-use Rattle.std.proofs.Common.{◌≡◌, ◌<◌, ◌+◌, ◌-◌, arith, drop, ℕ, List, [], ◌∷◌, ◌++◌, Option, Some, None, append-nil, get_or, length, ap, sym, ◌∙◌, subst, take}
+use Rattle.std.proofs.Common.{◌≡◌, ◌<◌, ◌+◌, ◌-◌, append_assoc, arith, drop, inl, refl, suc, zero, ℕ, List, [], ◌∷◌, ◌++◌, Option, Some, None, append-nil, get_or, length, ap, sym, ◌∙◌, subst, take}
 use Rattle.std.specs.List.{flat_map}
 use Rattle.std.proofs.KnownBytes.{Appends-trans}
 use Rattle.std.proofs.lemmas.List.{drop_more, take_more}
@@ -16,7 +16,8 @@ use Rattle.sheet_json.specs.Sheets.{telling_line}
 use Rattle.sheet_json.specs.Tellings.{EventReported, Telling}
 use Rattle.sheet_json.specs.Tellings as reported
 use Rattle.tellings.specs.Json.{event_line}
-use Rattle.tellings.specs.Voice.{Voice, WroteFront, numbered_text}
+use Rattle.tellings.specs.Voice.{AreLines, KeepsToLines, Voice, WroteFront, numbered_text}
+use Rattle.tellings.specs.inside.Lines.{lines_joined}
 use Rattle.tellings.proofs.Cut.{front_ahead}
 use Rattle.tellings.proofs.Rows.{Written, part_written}
 
@@ -59,9 +60,29 @@ one_outcome V sheet first outcomes i o a b c h is before more =
     (numbered_text V (first + (i + 1)) sheet (drop (i + 1) outcomes)) (numbered_text V first sheet outcomes)
     (outcome_ahead V sheet first outcomes i o h is) before more
 
-pub cut_outcome : (V : Voice) (sheet : Contents) (first : ℕ) (outcomes : List Outcome) (i : ℕ) (o : Outcome) (a b c : Option (List ℕ)) → i < length outcomes → o ≡ get_or outcomes i o
-    → OutcomesWritten V sheet first outcomes i a b → WroteFront b c (V.reply (first + i) sheet o.reply) → WroteFront a c (numbered_text V first sheet outcomes)
-cut_outcome V sheet first outcomes i o a b c h is before more =
-    front_ahead a b c (numbered_text V (first + i) sheet (drop i outcomes)) (V.reply (first + i) sheet o.reply)
-    (numbered_text V (first + (i + 1)) sheet (drop (i + 1) outcomes)) (numbered_text V first sheet outcomes)
-    (outcome_ahead V sheet first outcomes i o h is) before more
+-- the replies of the first outcomes, and those of the others
+replies_split : (V : Voice) (sheet : Contents) (first : ℕ) (i : ℕ) (outcomes : List Outcome)
+    → numbered_text V first sheet (take i outcomes) ++ numbered_text V (first + i) sheet (drop i outcomes) ≡ numbered_text V first sheet outcomes
+replies_split V sheet first zero outcomes =
+    let same : first + 0 ≡ first = omega arith in
+    ap (λ n. numbered_text V n sheet outcomes) same
+replies_split V sheet first (suc i) [] = refl
+replies_split V sheet first (suc i) (o ∷ outcomes) =
+    let later : first + suc i ≡ (first + 1) + i = omega arith in
+    append_assoc (V.reply first sheet o.reply) (numbered_text V (first + 1) sheet (take i outcomes)) (numbered_text V (first + suc i) sheet (drop i outcomes))
+    ∙ ap (λ t. V.reply first sheet o.reply ++ t)
+    (ap (λ n. numbered_text V (first + 1) sheet (take i outcomes) ++ numbered_text V n sheet (drop i outcomes)) later ∙ replies_split V sheet (first + 1) i outcomes)
+
+replies_in_lines : (V : Voice) → ((line : ℕ) (sheet : Contents) (r : Reply) → AreLines (V.reply line sheet r)) → (sheet : Contents) (first : ℕ) (outcomes : List Outcome)
+    → AreLines (numbered_text V first sheet outcomes)
+replies_in_lines V lines sheet first [] = inl refl
+replies_in_lines V lines sheet first (o ∷ outcomes) =
+    lines_joined (V.reply first sheet o.reply) (numbered_text V (first + 1) sheet outcomes) (lines first sheet o.reply) (replies_in_lines V lines sheet (first + 1) outcomes)
+
+pub cut_outcome : (V : Voice) (sheet : Contents) (first : ℕ) (outcomes : List Outcome) (i : ℕ) (o : Outcome) (a b c : Option (List ℕ)) → KeepsToLines V → i < length outcomes
+    → o ≡ get_or outcomes i o → OutcomesWritten V sheet first outcomes i a b → WroteFront V.in_lines b c (V.reply (first + i) sheet o.reply)
+    → WroteFront V.in_lines a c (numbered_text V first sheet outcomes)
+cut_outcome V sheet first outcomes i o a b c keeps h is before more =
+    front_ahead V.in_lines a b c (numbered_text V (first + i) sheet (drop i outcomes)) (V.reply (first + i) sheet o.reply)
+    (numbered_text V (first + (i + 1)) sheet (drop (i + 1) outcomes)) (numbered_text V first sheet outcomes) (numbered_text V first sheet (take i outcomes))
+    (outcome_ahead V sheet first outcomes i o h is) (replies_split V sheet first i outcomes) (λ so. replies_in_lines V (keeps.reply so) sheet first (take i outcomes)) before more

@@ -167,4 +167,5 @@ in_json = record {
   exported = exported_json;
   fault = fault_json;
   takes_memory = true;
+  in_lines = true;
 }

@@ -2,3 +2,4 @@ pub mod Voice
 pub mod Words
 pub mod Faults
 pub mod Json
+pub mod inside

@@ -31,6 +31,8 @@ pub record Voice : Type 0 where
   pub fault : RunFault → List ℕ
   -- whether memory is taken for what is written
   pub takes_memory : Bool
+  -- whether what is printed of a line, and of what came of a life, is whole lines
+  pub in_lines : Bool
 
 -- The title of a worksheet's page: no path of it is known.
 abbrev pub page_title : List ℕ
@@ -45,16 +47,26 @@ abbrev pub numbered_text : Voice → ℕ → Contents → List Outcome → List 
 numbered_text V line sheet [] = []
 numbered_text V line sheet (o ∷ outcomes) = V.reply line sheet o.reply ++ numbered_text V (line + 1) sheet outcomes
 
--- A beginning of this text was written, and nothing else.
-pub record WroteFront (old new : Option (List ℕ)) (text : List ℕ) : Type 0 where
+-- these bytes are whole lines, or none
+abbrev pub AreLines : List ℕ → Type 0
+AreLines bytes = (bytes ≡ []) ⊎ ((before : List ℕ) × (bytes ≡ before ++ 10 ∷ []))
+
+-- Where a voice writes in lines, what it prints of a line and of what came of a life is whole lines.
+pub record KeepsToLines (V : Voice) : Type 0 where
+  pub reply : V.in_lines ≡ true → (line : ℕ) (sheet : Contents) (r : Reply) → AreLines (V.reply line sheet r)
+  pub came : V.in_lines ≡ true → (w : World) (r : Reply) → AreLines (V.came w r)
+
+-- A beginning of this text was written, of whole lines where the voice writes in lines, and nothing else.
+pub record WroteFront (in_lines : Bool) (old new : Option (List ℕ)) (text : List ℕ) : Type 0 where
   pub front : List ℕ
   pub rest : List ℕ
   pub split : front ++ rest ≡ text
+  pub lines : in_lines ≡ true → AreLines front
   pub wrote : Appends old new front
 
 -- what was written of a text for which there was no memory
-abbrev pub CutShort : Option (List ℕ) → Option (List ℕ) → List ℕ → RunFault → Type 0
-CutShort old new text why = why ≡ fault.OutOfMemory → WroteFront old new text
+abbrev pub CutShort : Bool → Option (List ℕ) → Option (List ℕ) → List ℕ → RunFault → Type 0
+CutShort in_lines old new text why = why ≡ fault.OutOfMemory → WroteFront in_lines old new text
 
 -- nothing was written where there was no memory for the text
 abbrev pub Unwritten : {W : Type 0} → W → W → RunFault → Type 0

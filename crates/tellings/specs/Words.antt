@@ -87,4 +87,5 @@ in_words = record {
   exported = λ line format sheet. exported_words format sheet;
   fault = λ why. [];
   takes_memory = false;
+  in_lines = false;
 }

@@ -1,5 +1,5 @@
 //! As lines of JSON.
-ghost use Rattle.std.specs.Prelude.{◌≡◌, ◌+◌, ◌<◌, ◌^◌, IfErr, OnOk, length};
+ghost use Rattle.std.specs.Prelude.{◌≡◌, ◌+◌, ◌<◌, ◌^◌, IfErr, OnOk, length, true};
 ghost use Rattle.std.specs.Option.{option_copied};
 ghost use Rattle.std.specs.Io.KnownBytes.{Appends};
 ghost use Rattle.tellings.specs.Json as texts;
@@ -111,7 +111,7 @@ fn write_child<W: Write>(
     ensures ok { OnOk result (Appends (W.contents writer.old) (W.contents writer.new)
         (texts.child_json sheet.now.contents (option_copied next.entry) child.now)) }
     ensures err { IfErr result (IsWithheld texts.in_json) }
-    ensures cut { IfErr result (CutShort (W.contents writer.old) (W.contents writer.new)
+    ensures cut { IfErr result (CutShort true (W.contents writer.old) (W.contents writer.new)
         (texts.child_json sheet.now.contents (option_copied next.entry) child.now)) }
 {
     write_closed(alloc, sheet, next, child, writer)?;
@@ -132,7 +132,7 @@ fn write_came<D: Disk, W: Write>(
         (texts.came_json w reply.now)) }
     ensures err { IfErr result (IsWithheld texts.in_json) }
     ensures cut { (w : World) → IsHost host.now w
-        → IfErr result (CutShort (W.contents writer.old) (W.contents writer.new)
+        → IfErr result (CutShort true (W.contents writer.old) (W.contents writer.new)
         (texts.came_json w reply.now)) }
 {
     match reply {
@@ -157,7 +157,7 @@ fn write_lives<D: Disk, W: Write>(
         (lives_text texts.in_json w replies.now)) }
     ensures err { IfErr result (IsWithheld texts.in_json) }
     ensures cut { (w : World) → IsHost host.now w
-        → IfErr result (CutShort (W.contents writer.old) (W.contents writer.new)
+        → IfErr result (CutShort true (W.contents writer.old) (W.contents writer.new)
         (lives_text texts.in_json w replies.now)) }
 {
     for reply in replies {
@@ -223,7 +223,7 @@ fn write_outcomes<W: Write>(
         (numbered_text texts.in_json first sheet outcomes.now)) }
     ensures err { IfErr result (IsWithheld texts.in_json) }
     ensures cut { (sheet : Contents)
-        → IfErr result (CutShort (W.contents writer.old) (W.contents writer.new)
+        → IfErr result (CutShort true (W.contents writer.old) (W.contents writer.new)
         (numbered_text texts.in_json first sheet outcomes.now)) }
 {
     let mut line = first;
@@ -264,8 +264,11 @@ fn write_fault<W: Write>(alloc: Global, why: RunFault, writer: &mut W) -> Result
 
 impl Tells for InJson {
     ghost use Rattle.tellings.specs.Json.{in_json};
+    ghost use Rattle.tellings.specs.inside.Lines.{json_in_lines};
 
     ghost voice = { in_json };
+
+    ghost to_lines = { json_in_lines };
 
     fn frame<W: Write>(&self, frame: Frame, writer: &mut W) -> Result<(), RunFault> {
         write_frame(self.alloc, frame, writer)?;

@@ -222,8 +222,11 @@ fn tell_counts<W: Write>(counts: Counts, writer: &mut W) -> Result<(), RunFault>
 
 impl Tells for InWords {
     ghost use Rattle.tellings.specs.Words.{in_words};
+    ghost use Rattle.tellings.specs.inside.Lines.{words_in_no_lines};
 
     ghost voice = { in_words };
+
+    ghost to_lines = { words_in_no_lines };
 
     fn frame<W: Write>(&self, _frame: Frame, _writer: &mut W) -> Result<(), RunFault> {
         Ok(())

@@ -1,5 +1,5 @@
 //! A host's worksheet, as lines of JSON.
-ghost use Rattle.std.specs.Prelude.{◌≡◌, IfErr, IfOk, OnOk, Option, map};
+ghost use Rattle.std.specs.Prelude.{◌≡◌, IfErr, IfOk, OnOk, Option, map, true};
 ghost use Rattle.std.specs.Option.{option_map};
 ghost use Rattle.std.specs.Io.KnownBytes.{Appends};
 ghost use Rattle.serde_json.specs.View.{view};
@@ -53,7 +53,7 @@ fn write_parts<D: Disk, W: Write>(
         (texts.parts_text line w sheet.now.contents.fields)) }
     ensures err { IfErr result (IsWithheld texts.in_json) }
     ensures cut { (w : World) → IsHost host.now w
-        → IfErr result (CutShort (W.contents writer.old) (W.contents writer.new)
+        → IfErr result (CutShort true (W.contents writer.old) (W.contents writer.new)
         (texts.parts_text line w sheet.now.contents.fields)) }
 {
     let mut fields = sheet.fields();
@@ -127,7 +127,7 @@ pub(crate) fn write_sheet<D: Disk, W: Write>(
         (texts.sheet_json line w)) }
     ensures err { IfErr result (IsWithheld texts.in_json) }
     ensures cut { (w : World) → IsHost host.now w
-        → IfErr result (CutShort (W.contents writer.old) (W.contents writer.new)
+        → IfErr result (CutShort true (W.contents writer.old) (W.contents writer.new)
         (texts.sheet_json line w)) }
 {
     write_parts(alloc, line, host, host.sheet(), writer)?;

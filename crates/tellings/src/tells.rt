@@ -17,10 +17,13 @@ pub trait Tells {
     ghost use Rattle.std.specs.Io.KnownBytes.{Appends};
     ghost use Rattle.session_engine.specs.World.{World};
     ghost use Rattle.session_engine.specs.Host.{IsHost};
-    ghost use Rattle.tellings.specs.Voice.{CutShort, IsWithheld, Unwritten, Voice, lives_text, numbered_text};
+    ghost use Rattle.tellings.specs.Voice.{CutShort, IsWithheld, KeepsToLines, Unwritten, Voice, lives_text, numbered_text};
 
     /// The texts that it writes.
     ghost voice: { Voice };
+
+    /// They are lines where the voice says so.
+    ghost to_lines: { KeepsToLines voice };
 
     /// Tells what stands first or last. Only a voice that takes memory can fail there.
     fn frame<W: Write>(&self, frame: Frame, writer: &mut W) -> Result<(), RunFault>
@@ -50,7 +53,7 @@ pub trait Tells {
         ensures ok { OnOk result (Appends (W.contents writer.old) (W.contents writer.new)
             (numbered_text voice first sheet.now.contents outcomes.now)) }
         ensures err { IfErr result (IsWithheld voice) }
-        ensures cut { IfErr result (CutShort (W.contents writer.old) (W.contents writer.new)
+        ensures cut { IfErr result (CutShort voice.in_lines (W.contents writer.old) (W.contents writer.new)
             (numbered_text voice first sheet.now.contents outcomes.now)) };
 
     /// Tells what came of lives, or of a script's lines that have no number, with what this host knows of each life, and
@@ -66,7 +69,7 @@ pub trait Tells {
             (lives_text voice w replies.now)) }
         ensures err { IfErr result (IsWithheld voice) }
         ensures cut { (w : World) → IsHost host.now w
-            → IfErr result (CutShort (W.contents writer.old) (W.contents writer.new)
+            → IfErr result (CutShort voice.in_lines (W.contents writer.old) (W.contents writer.new)
             (lives_text voice w replies.now)) };
 
     /// Tells what came of lives, with what this host knows of each.
@@ -81,7 +84,7 @@ pub trait Tells {
             (lives_text voice w replies.now)) }
         ensures err { IfErr result (IsWithheld voice) }
         ensures cut { (w : World) → IsHost host.now w
-            → IfErr result (CutShort (W.contents writer.old) (W.contents writer.new)
+            → IfErr result (CutShort voice.in_lines (W.contents writer.old) (W.contents writer.new)
             (lives_text voice w replies.now)) };
 
     /// Tells the worksheet, for which this line asks.
@@ -96,7 +99,7 @@ pub trait Tells {
             (voice.sheet line w)) }
         ensures err { IfErr result (IsWithheld voice) }
         ensures cut { (w : World) → IsHost host.now w
-            → IfErr result (CutShort (W.contents writer.old) (W.contents writer.new)
+            → IfErr result (CutShort voice.in_lines (W.contents writer.old) (W.contents writer.new)
             (voice.sheet line w)) };
 
     /// Tells the field with this number, for which this line asks, or that there is none.

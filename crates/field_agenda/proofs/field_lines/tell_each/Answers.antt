@@ -4,6 +4,7 @@ use Rattle.std.specs.Io.KnownBytes.{Appends}
 use Rattle.tellings.specs.Voice.{WroteFront}
 use Rattle.tellings.proofs.Voices.{cut_outcome, one_outcome}
 use Rattle.field_agenda.specs.FieldLines.{by_field_lines, line_of_field}
+use Rattle.field_agenda.specs.inside.Lines.{fields_keep_to_lines}
 use Rattle.field_agenda.proofs.field_lines.tell_each.Goals as goal
 
 pub loop-outcome-preserved : goal.loop-outcome-preserved
@@ -26,5 +27,5 @@ returns-in_err-tell_one-clause-cut g c = let p = err_from_is_err_and c.from_resi
     let b = g.W.Write.contents c.loop-outcome.writer in
     let e = g.W.Write.contents c.tell_one.new.writer in
     let sheet = c.args.sheet.now.contents in
-    cut_outcome (by_field_lines g.T.Tells.voice) sheet c.args.first c.args.outcomes.now c.loop-outcome.outcome-index c.outcome-item.result a b e c.loop-outcome-test.true c.outcome-item.is c.loop-outcome.invariant.1
-    (subst (λ n. WroteFront b e (g.T.Tells.voice.reply (line_of_field n) sheet c.outcome-item.result.reply)) c.loop-outcome.invariant.0 (c.in_err-tell_one.ensures.cut lacks)))
+    cut_outcome (by_field_lines g.T.Tells.voice) sheet c.args.first c.args.outcomes.now c.loop-outcome.outcome-index c.outcome-item.result a b e (fields_keep_to_lines g.T.Tells.voice g.T.Tells.to_lines) c.loop-outcome-test.true c.outcome-item.is c.loop-outcome.invariant.1
+    (subst (λ n. WroteFront g.T.Tells.voice.in_lines b e (g.T.Tells.voice.reply (line_of_field n) sheet c.outcome-item.result.reply)) c.loop-outcome.invariant.0 (c.in_err-tell_one.ensures.cut lacks)))

@@ -2,7 +2,9 @@ use Rattle.std.proofs.Common.{◌≡◌, ◌+◌, subst, arith}
 use Rattle.std.proofs.lemmas.Result.{err_from_is_err_and}
 use Rattle.std.specs.Io.KnownBytes.{Appends}
 use Rattle.tellings.specs.Json.{in_json, reply_json}
+use Rattle.std.specs.Prelude.{true}
 use Rattle.tellings.proofs.Cut.{none_written}
+use Rattle.tellings.specs.inside.Lines.{json_in_lines}
 use Rattle.tellings.proofs.Voices.{cut_outcome, one_outcome}
 use Rattle.tellings.proofs.in_json.write_outcomes.Goals as goal
 
@@ -25,5 +27,5 @@ returns-in_err-write_reply-clause-cut g c = λ sheet. let p = err_from_is_err_an
     let a = g.W.Write.contents c.args.writer.now in
     let b = g.W.Write.contents c.loop-outcome.writer in
     let e = g.W.Write.contents c.write_reply.new.writer in
-    cut_outcome in_json sheet c.args.first c.args.outcomes.now c.loop-outcome.outcome-index c.outcome-item.result a b e c.loop-outcome-test.true c.outcome-item.is (c.loop-outcome.invariant.1 sheet)
-    (none_written g.W.Write.contents c.loop-outcome.writer c.write_reply.new.writer _ (c.in_err-write_reply.ensures.unwritten lacks)))
+    cut_outcome in_json sheet c.args.first c.args.outcomes.now c.loop-outcome.outcome-index c.outcome-item.result a b e json_in_lines c.loop-outcome-test.true c.outcome-item.is (c.loop-outcome.invariant.1 sheet)
+    (none_written true g.W.Write.contents c.loop-outcome.writer c.write_reply.new.writer _ (c.in_err-write_reply.ensures.unwritten lacks)))

@@ -6,6 +6,8 @@ use Rattle.sheet_json.specs.Sheets.{telling_line}
 use Rattle.session_engine.specs.World.{sheet_in}
 use Rattle.tellings.specs.Json.{parts_text, whole_reported}
 use Rattle.tellings.specs.Voice.{WroteFront}
+use Rattle.std.specs.Prelude.{true}
+use Rattle.tellings.specs.inside.Lines.{parts_in_lines}
 use Rattle.tellings.proofs.Cut.{front_first, front_then, none_written}
 use Rattle.tellings.proofs.sheets_json.write_sheet.Goals as goal
 
@@ -19,14 +21,14 @@ returns-clause-ok g c = λ w h.
 
 pub returns-in_err-write_parts-clause-cut : goal.returns-in_err-write_parts-clause-cut
 returns-in_err-write_parts-clause-cut g c = λ w h. let p = err_from_is_err_and c.from_residual.result c.from_residual.ensures.1 in rw (p.1, p.2) (λ lacks.
-    front_first (g.W.Write.contents c.args.writer.now) (g.W.Write.contents c.write_parts.new.writer) (parts_text c.args.line w (sheet_in w).fields) (telling_line (whole_reported c.args.line w))
-    (subst (λ s. WroteFront (g.W.Write.contents c.args.writer.now) (g.W.Write.contents c.write_parts.new.writer) (parts_text c.args.line w s.fields))
+    front_first true (g.W.Write.contents c.args.writer.now) (g.W.Write.contents c.write_parts.new.writer) (parts_text c.args.line w (sheet_in w).fields) (telling_line (whole_reported c.args.line w))
+    (subst (λ s. WroteFront true (g.W.Write.contents c.args.writer.now) (g.W.Write.contents c.write_parts.new.writer) (parts_text c.args.line w s.fields))
     (c.sheet.ensures.stands w h) (c.in_err-write_parts.ensures.cut w h lacks)))
 
 pub returns-in_err-write_made-clause-cut : goal.returns-in_err-write_made-clause-cut
 returns-in_err-write_made-clause-cut g c = λ w h. let p = err_from_is_err_and c.from_residual-in_err-write_made.result c.from_residual-in_err-write_made.ensures.1 in rw (p.1, p.2) (λ lacks.
-    front_then (g.W.Write.contents c.args.writer.now) (g.W.Write.contents c.write_parts.new.writer) (g.W.Write.contents c.write_made.new.writer)
-    (parts_text c.args.line w (sheet_in w).fields) (telling_line (whole_reported c.args.line w))
+    front_then true (g.W.Write.contents c.args.writer.now) (g.W.Write.contents c.write_parts.new.writer) (g.W.Write.contents c.write_made.new.writer)
+    (parts_text c.args.line w (sheet_in w).fields) (telling_line (whole_reported c.args.line w)) (λ _. parts_in_lines c.args.line w (sheet_in w).fields)
     (subst (λ s. Appends (g.W.Write.contents c.args.writer.now) (g.W.Write.contents c.write_parts.new.writer) (parts_text c.args.line w s.fields))
     (c.sheet.ensures.stands w h) (c.in_ok-write_parts.ensures.ok w h))
-    (none_written g.W.Write.contents c.write_parts.new.writer c.write_made.new.writer _ (c.in_err-write_made.ensures.unwritten lacks)))
+    (none_written true g.W.Write.contents c.write_parts.new.writer c.write_made.new.writer _ (c.in_err-write_made.ensures.unwritten lacks)))

@@ -1,10 +1,10 @@
-use Rattle.std.proofs.Common.{◌≡◌, ◌+◌, ◌≤◌, [], ◌∷◌, ◌++◌, List, Option, Some, None, Ok, Err, ap, sym, subst, refl, arith}
+use Rattle.std.proofs.Common.{◌+◌, ◌≤◌, [], ◌∷◌, ◌++◌, Option, Some, Ok, Err, sym, subst, refl, arith}
 use Rattle.host_events.specs.declared.event.Event.{Event}
 use Rattle.child_edge.specs.inside.Ranks.{rank}
 use Rattle.child_edge.proofs.Faulting.{same-at, same-on}
 use Rattle.child_edge.proofs.Ranks.{rank-most, rank-none, rank-on}
 use Rattle.driver.specs.Place.{agenda_rules, rules, source_rules}
-use Rattle.driver.specs.Items.{Item, take_alone, taking_due}
+use Rattle.driver.specs.Items.{take_alone, taking_due}
 use Rattle.driver.specs.Runs.{DidSteps, left_by_answer, parts, seen}
 use Rattle.driver.proofs.Singly.{nothing_due}
 use Rattle.driver.proofs.Running.{did_fail, did_none, did_then}
