@@ -27,5 +27,5 @@ returns-in_err-tell_one-clause-cut g c = let p = err_from_is_err_and c.from_resi
     let b = g.W.Write.contents c.loop-outcome.writer in
     let e = g.W.Write.contents c.tell_one.new.writer in
     let sheet = c.args.sheet.now.contents in
-    cut_outcome (by_field_lines g.T.Tells.voice) sheet c.args.first c.args.outcomes.now c.loop-outcome.outcome-index c.outcome-item.result a b e (fields_keep_to_lines g.T.Tells.voice g.met.T.Tells.to_lines) c.loop-outcome-test.true c.outcome-item.is c.loop-outcome.invariant.1
+    cut_outcome (by_field_lines g.T.Tells.voice) sheet c.args.first c.args.outcomes.now c.loop-outcome.outcome-index c.outcome-item.result a b e (fields_keep_to_lines g.T.Tells.voice g.T.Tells.to_lines) c.loop-outcome-test.true c.outcome-item.is c.loop-outcome.invariant.1
     (subst (λ n. WroteFront g.T.Tells.voice.in_lines b e (g.T.Tells.voice.reply (line_of_field n) sheet c.outcome-item.result.reply)) c.loop-outcome.invariant.0 (c.in_err-tell_one.ensures.cut lacks)))
