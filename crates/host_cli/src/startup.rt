@@ -5,7 +5,7 @@ use arrivals::Polled;
 use child_calls::Processes;
 use partial_output::Partial;
 use sheet_check::ProgressLine;
-use sheet_files::{Closed, FileDisk, FileNames, FilePlaces};
+use sheet_files::{Closed, FileDisk, FileNames, FilePlaces, OpenedFile};
 use std::alloc::AllocError;
 use std::fs::File;
 use std::io::{BufWriter, ErrorKind, IsTerminal, Stderr, Stdout};
@@ -24,7 +24,7 @@ pub struct Real<'a> {
 }
 
 impl<'a> System for Real<'a> {
-    type Disk = FileDisk<File>;
+    type Disk = FileDisk<OpenedFile<File>>;
 
     type Places = FilePlaces<FileNames<&'a HostRuntime>>;
 

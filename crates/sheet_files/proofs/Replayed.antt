@@ -33,6 +33,7 @@ noted calls call moment is start still =
     record {
       passes = record {
         keeps_model = refl;
+        reads_only = refl;
         past = λ t le. replayed-push t calls a call
             ∙ not_yet t call (replayed t calls a) (omega (arith, is, le));
         still = λ t le. made t le ∙ sym (made (moment + 1) (omega arith));
@@ -67,10 +68,10 @@ module _ {T E : Type 0} where
 
 pub synced : (start : List ℕ) (calls : List FileCall) (moment : ℕ) (b : AreaState)
     → b ≡ after_sync (replayed moment calls (settled start))
-    → FileSyncs {T = Unit {0}} (Ok tt) (replayed moment calls (settled start)) b
+    → FileSyncs {T = Unit {0}} false (Ok tt) (replayed moment calls (settled start)) b
 synced start calls moment b is =
     let a = replayed moment calls (settled start) in
-    subst (λ s. FileSyncs {T = Unit {0}} (Ok tt) a s) (sym is) (record {
+    subst (λ s. FileSyncs {T = Unit {0}} false (Ok tt) a s) (sym is) (record {
       content = refl;
       images = λ c image. subst (λ (l : List ℕ). FileImage a l) (sym image) (stays_an_image start calls moment);
       durable = λ c image. image;

@@ -7,10 +7,11 @@ use Rattle.std.specs.declared.io.ErrorKind.{ErrorKind}
 use Rattle.std.specs.declared.io.ErrorKind.TheVariants.{InvalidInput, ReadOnlyFilesystem}
 use Rattle.disk_model.specs.Disk.{AreaImage, AreaState, DiskState, DiskView, History, Torn, greatest_room, overwritten}
 
--- whether it keeps the model; whether a sync of this opening failed, so that no later one is to be
--- believed; and its state before each moment
+-- whether it keeps the model; whether it was opened to read alone; whether a sync of this opening
+-- failed, so that no later one is to be believed; and its state before each moment
 pub record FileView : Type 0 where
   pub keeps_model : Bool
+  pub reads_only : Bool
   pub lost : Bool
   pub before : ℕ → AreaState
 
@@ -35,9 +36,10 @@ pub record IsFresh (moment : ℕ) (v : FileView) : Type 0 where
 abbrev pub FileImage : AreaState → List ℕ → Type 0
 FileImage a c = AreaImage a.synced a.writes c
 
--- one call, at that moment: what was before it stays as it was
+-- one call, at that moment: what was before it stays as it was, and so does how it was opened
 pub record Passes (moment : ℕ) (old new : FileView) : Type 0 where
   pub keeps_model : new.keeps_model ≡ old.keeps_model
+  pub reads_only : new.reads_only ≡ old.reads_only
   pub past : (t : ℕ) → t ≤ moment → new.before t ≡ old.before t
   pub still : IsStill (moment + 1) new
 
@@ -60,13 +62,20 @@ tells_nothing_to_sync InvalidInput = true
 tells_nothing_to_sync ReadOnlyFilesystem = true
 tells_nothing_to_sync _ = false
 
+-- a sync by that error had nothing to flush: of a file that was opened to read alone. Of one that is
+-- written the same error says nothing of what was written
+abbrev pub HadNothingToSync : Bool → Error → Type 0
+HadNothingToSync reads_only error =
+    reads_only ≡ true × tells_nothing_to_sync (error_kind error) ≡ true
+
 -- a sync of a file of which no sync has failed: it changes nothing that a read gives, and at Ok all
--- of that is durable, as it is where the file system can only be read
-pub record FileSyncs {T : Type 0} (result : Result T Error) (old new : AreaState) : Type 0 where
+-- of that is durable, as it is where there was nothing to flush
+pub record FileSyncs {T : Type 0} (reads_only : Bool) (result : Result T Error)
+    (old new : AreaState) : Type 0 where
   pub content : new.content ≡ old.content
   pub images : (c : List ℕ) → FileImage new c → FileImage old c
   pub durable : MatchResult result (λ _. IsDurable new)
-      (λ error. tells_nothing_to_sync (error_kind error) ≡ true → IsDurable new)
+      (λ error. HadNothingToSync reads_only error → IsDurable new)
 
 -- what a sync returns to a disk: at Ok what a read gives is durable
 pub record FileSynced {T E : Type 0} (result : Result T E) (old new : AreaState) : Type 0 where
@@ -78,12 +87,13 @@ pub record FileSynced {T E : Type 0} (result : Result T E) (old new : AreaState)
 -- another error nothing is said
 abbrev pub Loses : {T : Type 0} → Result T Error → FileView → FileView → Type 0
 Loses result old new = MatchResult result (λ _. new.lost ≡ old.lost)
-    (λ error. tells_nothing_to_sync (error_kind error) ≡ true → new.lost ≡ old.lost)
+    (λ error. HadNothingToSync old.reads_only error → new.lost ≡ old.lost)
 
--- the view of a file of which nothing is claimed
-abbrev pub unclaimed_file : FileView
-unclaimed_file = record {
+-- the view of a file of which nothing is claimed, but whether it was opened to read alone
+abbrev pub unclaimed_file : Bool → FileView
+unclaimed_file reads_only = record {
   keeps_model = false;
+  reads_only = reads_only;
   lost = false;
   before = λ _. record { content = []; synced = []; writes = [] };
 }
@@ -101,6 +111,7 @@ LetGo let_go first second = let_go first × SecondLetGo let_go second
 abbrev pub missing_file : FileView
 missing_file = record {
   keeps_model = true;
+  reads_only = false;
   lost = false;
   before = λ _. record { content = []; synced = []; writes = [] };
 }

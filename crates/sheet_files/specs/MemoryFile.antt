@@ -21,10 +21,11 @@ abbrev pub replayed : ℕ → List FileCall → AreaState → AreaState
 replayed t [] a = a
 replayed t (call ∷ calls) a = replayed t calls (done_before t call a)
 
--- a file that was made with these bytes, after these calls
+-- a file that was made with these bytes, to be written too, after these calls
 abbrev pub memory_view : List ℕ → List FileCall → FileView
 memory_view start calls = record {
   keeps_model = true;
+  reads_only = false;
   lost = false;
   before = λ t. replayed t calls (settled start);
 }

@@ -1,6 +1,6 @@
 -- What a place of files went through when a worksheet's two files were made or opened. The place is
 -- followed from each call to the next one, so nothing else was done there, and each answer is said.
-use Rattle.std.specs.Prelude.{◌≡◌, ◌≤◌, ◌⊎◌, ◌++◌, ℕ, List, Bool, false, true, Option, Some, None, Result, Ok, Err, OnOk, codes}
+use Rattle.std.specs.Prelude.{◌≡◌, ◌≤◌, ◌⊎◌, ◌++◌, ℕ, List, Bool, false, true, Option, Some, None, Result, Ok, Err, IfOk, OnOk, codes}
 use Rattle.std.specs.IoError.{error_kind}
 use Rattle.std.specs.declared.io.Error.{Error}
 use Rattle.std.specs.declared.io.ErrorKind.TheVariants.{NotFound}
@@ -8,6 +8,7 @@ use Rattle.std.specs.declared.fs.locks.TryLockError.{TryLockError}
 use Rattle.std.specs.declared.fs.locks.TryLockError.TheVariants.{WouldBlock}
 use Rattle.std.specs.declared.fs.locks.TryLockError.TheVariants as tries
 use Rattle.disk_model.specs.Disk.{greatest_room}
+use Rattle.sheet_files.specs.declared.disk_file.OpenedFile.{OpenedFile}
 use Rattle.sheet_files.specs.declared.names.Names as names
 use Rattle.sheet_files.specs.declared.sheet_file.Lock.{Lock}
 use Rattle.sheet_files.specs.declared.sheet_file.Lock.TheVariants.{Shared, Exclusive}
@@ -113,6 +114,16 @@ SaysInUse (Err (tries.Error error)) result = result ≡ Err error ⊎ result ≡
 -- this lock was asked for of this file, and the answer is by what came
 abbrev pub LocksBy : {F : Type 0} → (F → Lock → Result (Unit {0}) TryLockError → Type 0) → F → Lock → Result Bool Error → Type 0
 LocksBy locked file lock result = (came : Result (Unit {0}) TryLockError) × locked file lock came × SaysInUse came result
+
+-- whether a file is opened to read alone for this lock
+abbrev pub reads_alone : Lock → Bool
+reads_alone Shared = true
+reads_alone Exclusive = false
+
+-- a file counts as opened to read alone exactly where it was asked for so: by the lock that it is to
+-- have
+abbrev pub OpenedFor : {F : Type 0} → Lock → Result (OpenedFile F) Error → Type 0
+OpenedFor lock result = IfOk result (λ opened. opened.reads_only ≡ reads_alone lock)
 
 -- some file was brought onto the disk, where that is the answer
 abbrev pub Brings : {F : Type 0} → (F → Result (Unit {0}) Error → Type 0) → Result (Unit {0}) Error → Type 0

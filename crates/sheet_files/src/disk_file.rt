@@ -7,8 +7,8 @@ ghost use Rattle.sheet_files.specs.DiskFile.{FileView, FileImage, FileSyncs, Fil
 use crate::SystemFile;
 use std::io;
 
-/// An open file, of which a disk asks five things. A call that may change something is given
-/// the moment at which it is made: the number of that call among all on the disk's files.
+/// An open file, of which a disk asks five things, and how it was opened. A call that may change something
+/// is given the moment at which it is made: the number of that call among all on the disk's files.
 ///
 /// A file that keeps the model has a state at each moment: what a read gives, and what a crash may
 /// leave. A real file keeps none, and nothing is claimed of what it holds; but that each look, read, write and sync
@@ -36,6 +36,10 @@ pub trait DiskFile {
     /// opening has failed.
     fn begins(&self) -> io::Result<u64>
         ensures { IfOk result (λ moment. IsFresh moment (view self.now)) };
+
+    /// Whether it was opened to read alone. Only then may a sync that failed have had nothing to bring out.
+    fn is_read_only(&self) -> bool
+        ensures { result ≡ (view self.now).reads_only };
 
     /// Its length in bytes.
     fn len(&mut self) -> io::Result<u64>
@@ -74,7 +78,7 @@ pub trait DiskFile {
         ensures passes { Passes moment (view self.old) (view self.new) }
         ensures lost { Loses result (view self.old) (view self.new) }
         ensures syncs { InFile (view self.old) ((view self.old).lost ≡ false
-            → FileSyncs result ((view self.old).before moment)
+            → FileSyncs (view self.old).reads_only result ((view self.old).before moment)
             ((view self.new).before (moment + 1))) };
 
     /// Lets it go, as the last of its calls.
@@ -86,21 +90,28 @@ pub trait DiskFile {
         → InFile (view file) (Now (view file) (λ a. FileImage a a.content)) };
 }
 
-/// A file of the system, of whose bytes nothing is claimed. Each call is one of its own, with the same answer, and none gets the moment.
-impl<F: SystemFile> DiskFile for F {
+/// An open file of the system, and whether it was opened to read alone: the system's own doesn't tell.
+#[derive(Drop)]
+pub struct OpenedFile<F: Drop> {
+    pub(crate) file: F,
+    pub(crate) reads_only: bool,
+}
+
+/// Of its bytes nothing is claimed. Each call is one of the system's file, with the same answer, and none gets the moment.
+impl<F: SystemFile + Drop> DiskFile for OpenedFile<F> {
     ghost use Rattle.disk_model.specs.Disk.{unclaimed};
 
-    ghost view = { λ _. unclaimed_file };
+    ghost view = { λ opened. unclaimed_file opened.reads_only };
 
-    ghost measured = { λ old result new. F.measures old result new };
+    ghost measured = { λ old result new. F.measures old.file result new.file };
 
-    ghost got = { λ old offset result bytes new. F.gets old offset result bytes new };
+    ghost got = { λ old offset result bytes new. F.gets old.file offset result bytes new.file };
 
-    ghost written = { λ old bytes offset result new. F.puts old bytes offset result new };
+    ghost written = { λ old bytes offset result new. F.puts old.file bytes offset result new.file };
 
-    ghost synced = { λ old result new. F.flushes old result new };
+    ghost synced = { λ old result new. F.flushes old.file result new.file };
 
-    ghost let_go = { λ file. F.ends file };
+    ghost let_go = { λ opened. F.ends opened.file };
 
     ghost content_stays = { λ _ kept. unclaimed kept };
 
@@ -108,23 +119,27 @@ impl<F: SystemFile> DiskFile for F {
         Ok(0)
     }
 
+    fn is_read_only(&self) -> bool {
+        self.reads_only
+    }
+
     fn len(&mut self) -> io::Result<u64> {
-        self.measure()
+        self.file.measure()
     }
 
     fn read(&mut self, buffer: &mut [u8], offset: u64) -> io::Result<()> {
-        self.get(buffer, offset)
+        self.file.get(buffer, offset)
     }
 
     fn write(&mut self, _moment: u64, bytes: &[u8], offset: u64) -> io::Result<()> {
-        self.put(bytes, offset)
+        self.file.put(bytes, offset)
     }
 
     fn sync(&mut self, _moment: u64) -> io::Result<()> {
-        self.flush_data()
+        self.file.flush_data()
     }
 
     fn close(self) {
-        self.end();
+        self.file.end();
     }
 }

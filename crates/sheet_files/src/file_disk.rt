@@ -43,8 +43,9 @@ fn has_nothing_to_sync(kind: ErrorKind) -> bool
     )
 }
 
-/// Brings a file's data onto the disk. What lies on a file system that can only be read is there.
-fn sync_file<F: DiskFile>(file: &mut F, moment: u64, lock: Lock) -> io::Result<()>
+/// Brings a file's data onto the disk. What lies on a file system that can only be read is there. That a
+/// sync says so counts of a file that was opened to read alone: what is written elsewhere may be lost.
+fn sync_file<F: DiskFile>(file: &mut F, moment: u64) -> io::Result<()>
     requires { IsStill moment (F.view file.old) }
 
     ensures passes { Passes moment (F.view file.old) (F.view file.new) }
@@ -56,7 +57,7 @@ fn sync_file<F: DiskFile>(file: &mut F, moment: u64, lock: Lock) -> io::Result<(
     match file.sync(moment) {
         Ok(()) => Ok(()),
         Err(error) => {
-            if lock == Lock::Shared && has_nothing_to_sync(error.kind()) {
+            if file.is_read_only() && has_nothing_to_sync(error.kind()) {
                 return Ok(());
             }
             Err(error)
@@ -283,14 +284,14 @@ impl<F: DiskFile + Drop> FileDisk<F> {
         }
         match area {
             Area::First => {
-                let synced = sync_file(&mut self.first, moment, self.lock);
+                let synced = sync_file(&mut self.first, moment);
                 self.moment = moment + 1;
                 self.failed = synced.is_err();
                 synced
             }
             Area::Second => match &mut self.second {
                 Some(second) => {
-                    let synced = sync_file(second, moment, self.lock);
+                    let synced = sync_file(second, moment);
                     self.moment = moment + 1;
                     self.failed = synced.is_err();
                     synced

@@ -17,7 +17,7 @@ mod sheet_file;
 mod system_file;
 
 pub use closing::Close;
-pub use disk_file::DiskFile;
+pub use disk_file::{DiskFile, OpenedFile};
 pub use file_disk::FileDisk;
 pub use files_fault::{FilesFault, HoldFault, MakeFault};
 pub use holding::{Closed, Held, hold_closed};

@@ -129,6 +129,10 @@ impl DiskFile for MemoryFile {
         Ok(self.next)
     }
 
+    fn is_read_only(&self) -> bool {
+        false
+    }
+
     fn len(&mut self) -> io::Result<u64> {
         Ok(self.content.len() as u64)
     }

@@ -1,10 +1,11 @@
 //! The two files of a worksheet: their paths, and the real place in which they are made and opened.
 ghost use Rattle.std.specs.Prelude.{◌≡◌, IfOk, string_bytes};
-ghost use Rattle.sheet_files.specs.Names.{Brings, LocksBy, second_name};
+ghost use Rattle.sheet_files.specs.Names.{Brings, LocksBy, OpenedFor, second_name};
+ghost use Rattle.sheet_files.specs.declared.sheet_file.Lock.TheVariants.{Exclusive};
 
 use crate::holding::{Closed, Held, hold_closed};
 use crate::programs::is_there_to_start;
-use crate::{HoldFault, Identity, Lock, Names, SheetFile};
+use crate::{HoldFault, Identity, Lock, Names, OpenedFile, SheetFile};
 use journal::FIRST_OF_SECOND;
 use std::alloc::{Alloc, Global};
 use std::env::Env;
@@ -87,14 +88,18 @@ fn is_in_use<F: SheetFile>(file: &F, lock: Lock) -> io::Result<bool>
 
 /// Opens a plain file that is there: to read alone for a shared lock, else to write too. What is none
 /// is refused before it is opened, since opening a pipe would wait for its other end.
-fn open_plain<R: Files>(rt: &R, path: &str, lock: Lock) -> io::Result<R::File> {
+fn open_plain<R: Files>(rt: &R, path: &str, lock: Lock) -> io::Result<OpenedFile<R::File>>
+    ensures { OpenedFor lock result }
+{
     if !fs::symlink_metadata(rt, path)?.is_file() {
         return Err(io::Error::from(ErrorKind::InvalidInput));
     }
-    OpenOptions::new()
+    let reads_only = matches!(lock, Lock::Shared);
+    let file = OpenOptions::new()
         .read(true)
-        .write(lock == Lock::Exclusive)
-        .open(rt, path)
+        .write(!reads_only)
+        .open(rt, path)?;
+    Ok(OpenedFile { file, reads_only })
 }
 
 /// Whether a file begins as each first file of this version does.
@@ -111,7 +116,7 @@ fn begins_sheet<F: FileExt>(file: &F) -> io::Result<bool> {
 /// file stands beside what it leads to.
 fn has_first<F: FileExt, R: Files<File = F>>(rt: &R, path: &str) -> io::Result<bool> {
     match open_plain(rt, path, Lock::Shared) {
-        Ok(file) => begins_sheet(&file),
+        Ok(opened) => begins_sheet(&opened.file),
         Err(error) if matches!(error.kind(), ErrorKind::NotFound | ErrorKind::InvalidInput) => Ok(
             false,
         ),
@@ -149,8 +154,8 @@ fn bring_folder<F: SheetFile + Drop, R: Files<File = F>>(rt: &R, path: &str) -> 
 }
 
 /// The files that a runtime reaches, of a program that found these standard streams closed. Of what most of its calls do nothing
-/// is claimed; but that a lock is asked for of the file in question, and that a file or a folder is brought onto
-/// the disk.
+/// is claimed; but that a lock is asked for of the file in question, that a file or a folder is brought onto
+/// the disk, and that a file which counts as opened to read alone was asked for so.
 #[derive(Drop)]
 pub struct FileNames<R: Files + Drop> {
     rt: R,
@@ -169,7 +174,8 @@ impl<R: Files + Drop> FileNames<R> {
     }
 }
 
-impl<F: SheetFile + Drop, R: Files<File = F> + Env + Alloc + Drop> Names<F> for FileNames<R> {
+impl<F: SheetFile + Drop, R: Files<File = F> + Env + Alloc + Drop> Names<OpenedFile<F>>
+    for FileNames<R> {
     ghost holds = { λ _ _ _. Unit {0} };
 
     ghost leads = { λ _ _ _ _. Unit {0} };
@@ -178,11 +184,11 @@ impl<F: SheetFile + Drop, R: Files<File = F> + Env + Alloc + Drop> Names<F> for 
 
     ghost looks = { λ _ _ _ _. Unit {0} };
 
-    ghost makes = { λ _ _ _ _. Unit {0} };
+    ghost makes = { λ _ _ result _. OpenedFor Exclusive result };
 
-    ghost opens = { λ _ _ _ _ _. Unit {0} };
+    ghost opens = { λ _ _ lock result _. OpenedFor lock result };
 
-    ghost locks = { λ _ file lock result _. LocksBy F.locked file lock result };
+    ghost locks = { λ _ opened lock result _. LocksBy F.locked opened.file lock result };
 
     ghost is_single = { λ _ _ _ _. Unit {0} };
 
@@ -192,7 +198,7 @@ impl<F: SheetFile + Drop, R: Files<File = F> + Env + Alloc + Drop> Names<F> for 
 
     ghost reads = { λ _ _ _ _. Unit {0} };
 
-    ghost syncs = { λ _ file result _. F.brought file result };
+    ghost syncs = { λ _ opened result _. F.brought opened.file result };
 
     ghost syncs_folder = { λ _ _ result _. Brings F.brought result };
 
@@ -218,44 +224,48 @@ impl<F: SheetFile + Drop, R: Files<File = F> + Env + Alloc + Drop> Names<F> for 
         is_there(&self.rt, path)
     }
 
-    fn make(&mut self, path: &str) -> io::Result<F> {
-        OpenOptions::new()
+    fn make(&mut self, path: &str) -> io::Result<OpenedFile<F>> {
+        let file = OpenOptions::new()
             .read(true)
             .write(true)
             .create_new(true)
-            .open(&self.rt, path)
+            .open(&self.rt, path)?;
+        Ok(OpenedFile {
+            file,
+            reads_only: false,
+        })
     }
 
-    fn open(&mut self, path: &str, lock: Lock) -> io::Result<F> {
+    fn open(&mut self, path: &str, lock: Lock) -> io::Result<OpenedFile<F>> {
         open_plain(&self.rt, path, lock)
     }
 
-    fn lock(&mut self, file: &F, lock: Lock) -> io::Result<bool> {
-        is_in_use(file, lock)
+    fn lock(&mut self, opened: &OpenedFile<F>, lock: Lock) -> io::Result<bool> {
+        is_in_use(&opened.file, lock)
     }
 
-    fn single(&mut self, file: &F) -> io::Result<()> {
-        single(file)?;
+    fn single(&mut self, opened: &OpenedFile<F>) -> io::Result<()> {
+        single(&opened.file)?;
         Ok(())
     }
 
-    fn two(&mut self, first: &F, second: &F) -> io::Result<()> {
-        if single(first)? == single(second)? {
+    fn two(&mut self, first: &OpenedFile<F>, second: &OpenedFile<F>) -> io::Result<()> {
+        if single(&first.file)? == single(&second.file)? {
             return Err(io::Error::from(ErrorKind::InvalidInput));
         }
         Ok(())
     }
 
-    fn length(&mut self, file: &F) -> io::Result<u64> {
-        Ok(file.metadata()?.len())
+    fn length(&mut self, opened: &OpenedFile<F>) -> io::Result<u64> {
+        Ok(opened.file.metadata()?.len())
     }
 
-    fn names_second(&mut self, first: &F) -> io::Result<bool> {
-        names_second(first)
+    fn names_second(&mut self, first: &OpenedFile<F>) -> io::Result<bool> {
+        names_second(&first.file)
     }
 
-    fn sync(&mut self, file: &F) -> io::Result<()> {
-        file.bring()
+    fn sync(&mut self, opened: &OpenedFile<F>) -> io::Result<()> {
+        opened.file.bring()
     }
 
     fn sync_folder(&mut self, path: &str) -> io::Result<()> {

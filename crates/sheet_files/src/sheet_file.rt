@@ -3,7 +3,7 @@ ghost use Rattle.std.specs.Prelude.{Result};
 ghost use Rattle.std.specs.declared.fs.locks.TryLockError.{TryLockError};
 ghost use Rattle.std.specs.declared.io.Error.{Error};
 
-use crate::DiskFile;
+use crate::SystemFile;
 use std::fs::{File, OpenFile, TryLockError};
 use std::io;
 use std::os::unix::fs::{FileExt, MetadataExt};
@@ -32,7 +32,7 @@ pub struct Identity {
 
 /// An open file in which a worksheet can lie. That a lock was asked for, and that it was brought onto the disk as a
 /// whole, stands in relations, as with the calls of `SystemFile`.
-pub trait SheetFile: OpenFile + FileExt + DiskFile {
+pub trait SheetFile: OpenFile + FileExt + SystemFile {
     ghost use Rattle.sheet_files.specs.declared.sheet_file.Lock.{Lock};
 
     ghost locked: { Self → Lock → Result (Unit {0}) TryLockError → Type 0 };

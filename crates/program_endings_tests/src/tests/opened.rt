@@ -1,5 +1,5 @@
 //! Worksheets in the files of a runtime that has all its standard streams.
-use sheet_files::{Closed, FileDisk, FileNames, FilesFault, MakeFault, SheetFile};
+use sheet_files::{Closed, FileDisk, FileNames, FilesFault, MakeFault, OpenedFile, SheetFile};
 use std::alloc::Global;
 use std::env::Env;
 use std::rt::Files;
@@ -15,7 +15,7 @@ pub fn create<F: SheetFile + Drop, R: Files<File = F> + Env>(
     rt: &R,
     alloc: Global,
     path: &str,
-) -> Result<FileDisk<F>, MakeFault> {
+) -> Result<FileDisk<OpenedFile<F>>, MakeFault> {
     FileDisk::create(&mut FileNames::new((rt, alloc), OPEN), alloc, path)
 }
 
@@ -24,7 +24,7 @@ pub fn open<F: SheetFile + Drop, R: Files<File = F> + Env>(
     rt: &R,
     alloc: Global,
     path: &str,
-) -> Result<FileDisk<F>, FilesFault> {
+) -> Result<FileDisk<OpenedFile<F>>, FilesFault> {
     FileDisk::open(&mut FileNames::new((rt, alloc), OPEN), alloc, path)
 }
 
@@ -33,6 +33,6 @@ pub fn open_to_read<F: SheetFile + Drop, R: Files<File = F> + Env>(
     rt: &R,
     alloc: Global,
     path: &str,
-) -> Result<FileDisk<F>, FilesFault> {
+) -> Result<FileDisk<OpenedFile<F>>, FilesFault> {
     FileDisk::open_to_read(&mut FileNames::new((rt, alloc), OPEN), alloc, path)
 }
