@@ -14,7 +14,7 @@ use Rattle.live.specs.declared.manner.Manner.{Manner}
 use Rattle.live.specs.Arrivals.{said_by}
 use Rattle.driver.specs.Steps.{most_together}
 use Rattle.line_agenda.specs.declared.doing.Transaction.{Transaction}
-use Rattle.line_agenda.specs.declared.doing.Chosen.{Chosen}
+use Rattle.line_agenda.specs.declared.doing.LineChoice.{LineChoice}
 use Rattle.line_agenda.specs.LinesAt.{LinesAt}
 use Rattle.line_agenda.specs.Alone.{AsksAlone, BeginsWait}
 use Rattle.line_agenda.specs.Transactions.{asked_in, breaks_transaction, broken_transaction, ends_transaction, first_bad, in_silence, keeps_command, new_transaction, with_edit}
@@ -83,11 +83,11 @@ module _ (before : List InputLine) (x : InputLine) where
   begun_so : (n : ℕ) (b : Option Transaction) → said_by x ≡ Some live.Begin → b ≡ Some (new_transaction n) → Then b
   begun_so n b says is = subst (λ (o : Option Transaction). Then o) (sym is) (opened before [] x (new_transaction n) refl says refl)
 
-  waited : (n : ℕ) (w : World) (held : Hold) (c : Chosen) → BeginsWait n w held c → Then c.transaction
+  waited : (n : ℕ) (w : World) (held : Hold) (c : LineChoice) → BeginsWait n w held c → Then c.transaction
   waited n w held c (inl (none, is, free, done, shut)) = closed_so (before ++ x ∷ []) c.transaction shut
   waited n w held c (inr (some, is, on, done, shut)) = closed_so (before ++ x ∷ []) c.transaction shut
 
-  outside : (m : Manner) (n : ℕ) (w : World) (now : ℕ) (l : Option LiveLine) (c : Chosen) → said_by x ≡ l → AsksAlone m n w now l c → Then c.transaction
+  outside : (m : Manner) (n : ℕ) (w : World) (now : ℕ) (l : Option LiveLine) (c : LineChoice) → said_by x ≡ l → AsksAlone m n w now l c → Then c.transaction
   outside m n w now None c says ((is, free, shut), done) = closed_so (before ++ x ∷ []) c.transaction shut
   outside m n w now (Some (live.Script line.Skip)) c says ((is, free, shut), done) = closed_so (before ++ x ∷ []) c.transaction shut
   outside m n w now (Some (live.Script (line.Command command))) c says (asks, free, done, shut) = closed_so (before ++ x ∷ []) c.transaction shut
@@ -101,6 +101,6 @@ module _ (before : List InputLine) (x : InputLine) where
   outside m n w now (Some live.End) c says ((is, free, shut), done) = closed_so (before ++ x ∷ []) c.transaction shut
 
   -- after one line more, by what was asked for of it
-  pub one_more : (o : Option Transaction) (a : LinesAt) (w : World) (now : ℕ) (c : Chosen) → AsksIn o a w now (said_by x) c → Opened before o → Then c.transaction
+  pub one_more : (o : Option Transaction) (a : LinesAt) (w : World) (now : ℕ) (c : LineChoice) → AsksIn o a w now (said_by x) c → Opened before o → Then c.transaction
   one_more None a w now c asks o = outside a.manner (a.number + 1) w now (said_by x) c refl asks
-  one_more (Some b) a w now c is o = subst (λ (d : Chosen). Then d.transaction) (sym is) (in_open b (a.number + 1) (said_by x) refl o)
+  one_more (Some b) a w now c is o = subst (λ (d : LineChoice). Then d.transaction) (sym is) (in_open b (a.number + 1) (said_by x) refl o)

@@ -8,7 +8,7 @@ use Rattle.live.proofs.Gatherings.{grouped_count}
 use Rattle.session_engine.specs.World.{World}
 use Rattle.live.specs.declared.live_line.LiveLine.{LiveLine}
 use Rattle.live.specs.declared.manner.Manner.{Manner}
-use Rattle.line_agenda.specs.declared.doing.Chosen.{Chosen}
+use Rattle.line_agenda.specs.declared.doing.LineChoice.{LineChoice}
 use Rattle.line_agenda.specs.Alone.{AsksAlone}
 
 -- the events are as many as the lines
@@ -24,7 +24,7 @@ first_taken (z ∷ zs) ys x some is rest =
     cc
 
 -- the same is asked for where all of these are equal
-pub asks_same : (m n : Manner) (k j : ℕ) (w : World) (now then_now : ℕ) (l p : Option LiveLine) (c : Chosen) → m ≡ n → k ≡ j → now ≡ then_now → l ≡ p
+pub asks_same : (m n : Manner) (k j : ℕ) (w : World) (now then_now : ℕ) (l p : Option LiveLine) (c : LineChoice) → m ≡ n → k ≡ j → now ≡ then_now → l ≡ p
     → AsksAlone m k w now l c → AsksAlone n j w then_now p c
 asks_same m n k j w now then_now l p c em ek en el asks =
     subst (λ (x : Manner). AsksAlone x j w then_now p c) em

@@ -23,7 +23,7 @@ use Rattle.driver.specs.Place.{RunPlace, SinkRules, SourceRules, rules}
 use Rattle.driver.specs.Steps.{Goes, Run, most_together}
 use Rattle.driver.specs.Steps as step
 use Rattle.line_agenda.specs.declared.doing.Transaction.{Transaction}
-use Rattle.line_agenda.specs.declared.doing.Chosen.{Chosen}
+use Rattle.line_agenda.specs.declared.doing.LineChoice.{LineChoice}
 use Rattle.line_agenda.specs.declared.matter.Matter.{Matter}
 use Rattle.line_agenda.specs.declared.matter.Matter.TheVariants as matter
 use Rattle.line_agenda.specs.Alone.{AsksAlone, AsksCommand, BeginsWait}
@@ -48,7 +48,7 @@ abbrev edits_in : Result Turn RunFault → List Event
 edits_in (Ok (turn.Whole first edits)) = edits
 edits_in _ = []
 
-abbrev answer : Chosen → Result Turn RunFault
+abbrev answer : LineChoice → Result Turn RunFault
 answer c = Ok c.turn
 
 -- At the next line, which ends it, the transaction that is open has these commands, of lines from this one on.
@@ -112,18 +112,18 @@ module _ (first : ℕ) (edits : List Event) where
   in_open b n (Some live.End) is = at_end b n is
 
   -- another turn is asked for
-  other : {A : Type 0} (c : Chosen) (t : Turn) → Is (Ok c.turn) → c.turn ≡ t → is_whole (Ok t) ≡ false → A
+  other : {A : Type 0} (c : LineChoice) (t : Turn) → Is (Ok c.turn) → c.turn ≡ t → is_whole (Ok t) ≡ false → A
   other c t is so isnt = no_whole (Ok t) (is ∙ ap Ok so) isnt
 
-  at_wait : {A : Type 0} (n : ℕ) (w : World) (held : Hold) (c : Chosen) → Is (Ok c.turn) → BeginsWait n w held c → A
+  at_wait : {A : Type 0} (n : ℕ) (w : World) (held : Hold) (c : LineChoice) → Is (Ok c.turn) → BeginsWait n w held c → A
   at_wait n w held c is (inl (none, so, free, done, shut)) = other c _ is so refl
   at_wait n w held c is (inr (some, so, on, done, shut)) = other c _ is so refl
 
-  at_lone : {A : Type 0} (n : ℕ) (command : Command) (c : Chosen) → Is (Ok c.turn) → AsksCommand n command c.turn → A
+  at_lone : {A : Type 0} (n : ℕ) (command : Command) (c : LineChoice) → Is (Ok c.turn) → AsksCommand n command c.turn → A
   at_lone n command c is (inl (checkpoint, so)) = other c _ is so refl
   at_lone n command c is (inr (isnt, lines)) = other c _ is lines.1 refl
 
-  outside : {A : Type 0} (m : Manner) (n : ℕ) (w : World) (now : ℕ) (l : Option LiveLine) (c : Chosen) → AsksAlone m n w now l c → Is (Ok c.turn) → A
+  outside : {A : Type 0} (m : Manner) (n : ℕ) (w : World) (now : ℕ) (l : Option LiveLine) (c : LineChoice) → AsksAlone m n w now l c → Is (Ok c.turn) → A
   outside m n w now None c ((so, free, shut), done) is = other c _ is so refl
   outside m n w now (Some (live.Script line.Skip)) c ((so, free, shut), done) is = other c _ is so refl
   outside m n w now (Some (live.Script (line.Command command))) c (asks, free, done, shut) is = at_lone n command c is asks
@@ -136,7 +136,7 @@ module _ (first : ℕ) (edits : List Event) where
   outside m n w now (Some live.Begin) c (so, free, done, opens) is = other c _ is so refl
   outside m n w now (Some live.End) c ((so, free, shut), done) is = other c _ is so refl
 
-  of_line : (a : LinesAt) (k : Held) (w : World) (now : ℕ) (x : InputLine) (o : Option Transaction) (c : Chosen) → a.transaction ≡ o → ComeNext (x ∷ []) a.buffer k
+  of_line : (a : LinesAt) (k : Held) (w : World) (now : ℕ) (x : InputLine) (o : Option Transaction) (c : LineChoice) → a.transaction ≡ o → ComeNext (x ∷ []) a.buffer k
       → AsksIn o (given_to a k) w now (said_by x) c → Is (Ok c.turn) → EndsTransaction a first edits
   of_line a k w now x None c there next asks is = outside a.manner (a.number + 1) w now (said_by x) c asks is
   of_line a k w now x (Some b) c there next so is = by (in_open b (a.number + 1) (said_by x) (is ∙ ap answer so))

@@ -19,7 +19,7 @@ use Rattle.live.specs.Saying.{asks_in_vain}
 use Rattle.driver.specs.declared.report.Show.TheVariants as show
 use Rattle.driver.specs.declared.turn.Turn.{Turn}
 use Rattle.driver.specs.declared.turn.Turn.TheVariants as turn
-use Rattle.line_agenda.specs.declared.doing.Chosen.{Chosen}
+use Rattle.line_agenda.specs.declared.doing.LineChoice.{LineChoice}
 use Rattle.line_agenda.specs.declared.doing.Doing.TheVariants as doing
 use Rattle.line_agenda.specs.Waits.{begun}
 use Rattle.line_agenda.specs.Transactions.{new_transaction}
@@ -35,18 +35,18 @@ AsksCommand number c t =
     ⊎ ((is_checkpoint (event.Command c) ≡ false) × AsksLines number (event.Command c ∷ []) t)
 
 -- No wait is begun, and no transaction. This is asked for, and this is done then.
-abbrev pub AsksTurn : Turn → Chosen → Type 0
+abbrev pub AsksTurn : Turn → LineChoice → Type 0
 AsksTurn t c = (c.turn ≡ t) × (c.held ≡ hold.Free) × (c.transaction ≡ None)
 
 -- A wait begins. Where no item waits it is over at once, and that is printed.
-abbrev pub BeginsWait : ℕ → World → Hold → Chosen → Type 0
+abbrev pub BeginsWait : ℕ → World → Hold → LineChoice → Type 0
 BeginsWait number w begun c =
     ((waits w ≡ []) × (c.turn ≡ turn.Show (show.Note (note.Waited number false))) × (c.held ≡ hold.Free) × (c.doing ≡ doing.Line false) × (c.transaction ≡ None))
     ⊎ ((waits w ≢ []) × (c.turn ≡ turn.Nothing) × (c.held ≡ begun) × (c.doing ≡ doing.Line false) × (c.transaction ≡ None))
 
 -- What the line with this number asks for outside of a transaction, in this manner, where the clock reads this. A line that isn't known goes wrong, and so does
 -- one that asks for what isn't there. The end of no transaction isn't known.
-abbrev pub AsksAlone : Manner → ℕ → World → ℕ → Option LiveLine → Chosen → Type 0
+abbrev pub AsksAlone : Manner → ℕ → World → ℕ → Option LiveLine → LineChoice → Type 0
 AsksAlone m number w now None c = AsksTurn (turn.Show (show.Note (note.Bad number))) c × (c.doing ≡ doing.Line true)
 AsksAlone m number w now (Some (live.Script line.Skip)) c = AsksTurn (turn.Show (show.Note (note.Nothing number))) c × (c.doing ≡ doing.Line false)
 AsksAlone m number w now (Some (live.Script (line.Command command))) c =

@@ -9,7 +9,7 @@ use Rattle.live.specs.declared.holding.Hold.TheVariants as hold
 use Rattle.live.specs.declared.manner.Manner.{Manner}
 use Rattle.line_agenda.specs.declared.by_lines.ByLines.{ByLines}
 use Rattle.line_agenda.specs.declared.doing.Transaction.{Transaction}
-use Rattle.line_agenda.specs.declared.doing.Chosen.{Chosen}
+use Rattle.line_agenda.specs.declared.doing.LineChoice.{LineChoice}
 use Rattle.line_agenda.specs.declared.doing.Doing.{Doing}
 use Rattle.line_agenda.specs.declared.doing.Doing.TheVariants as doing
 
@@ -110,7 +110,7 @@ abbrev pub counted : LinesAt → LinesAt
 counted a = record a { number = a.number + 1; transaction = None }
 
 -- a line was taken, and this was chosen for it
-abbrev pub after_line : LinesAt → Chosen → LinesAt
+abbrev pub after_line : LinesAt → LineChoice → LinesAt
 after_line a c = record a { number = a.number + 1; held = c.held; doing = c.doing; transaction = c.transaction }
 
 -- this transaction is open

@@ -16,7 +16,7 @@ use Rattle.driver.specs.declared.report.Show.TheVariants as show
 use Rattle.driver.specs.declared.turn.Turn.{Turn}
 use Rattle.driver.specs.declared.turn.Turn.TheVariants as turn
 use Rattle.line_agenda.specs.declared.doing.Transaction.{Transaction}
-use Rattle.line_agenda.specs.declared.doing.Chosen.{Chosen}
+use Rattle.line_agenda.specs.declared.doing.LineChoice.{LineChoice}
 use Rattle.line_agenda.specs.LinesAt.{LinesAt, after_end, after_group, after_line, counted, given_to, read_to}
 use Rattle.line_agenda.specs.Transactions.{asked_in}
 use Rattle.line_agenda.specs.Alone.{AsksAlone, AsksLines}
@@ -26,13 +26,13 @@ abbrev pub ComeNext : List InputLine → Held → Held → Type 0
 ComeNext lines h k = (more : List ℕ) → left_with h more ≡ lines ++ left_with k more
 
 -- what the next line asks for, in the transaction that is open or where none is
-abbrev pub AsksIn : Option Transaction → LinesAt → World → ℕ → Option LiveLine → Chosen → Type 0
+abbrev pub AsksIn : Option Transaction → LinesAt → World → ℕ → Option LiveLine → LineChoice → Type 0
 AsksIn None a w now l c = AsksAlone a.manner (a.number + 1) w now l c
 AsksIn (Some b) a w now l c = c ≡ asked_in b (a.number + 1) l
 
 -- A line that says this was taken, and this is asked for.
 abbrev pub TakesAlone : LinesAt → World → ℕ → Option LiveLine → Turn → LinesAt → Type 0
-TakesAlone a w now l t b = (c : Chosen) × AsksIn a.transaction a w now l c × (t ≡ c.turn) × (b ≡ after_line a c)
+TakesAlone a w now l t b = (c : LineChoice) × AsksIn a.transaction a w now l c × (t ≡ c.turn) × (b ≡ after_line a c)
 
 -- A line was taken, or there was no memory for the command that it says.
 abbrev pub TakesGivenLine : LinesAt → World → ℕ → Option LiveLine → Result Turn RunFault → LinesAt → Type 0

@@ -14,7 +14,7 @@ use Rattle.driver.specs.declared.report.Show.TheVariants as show
 use Rattle.driver.specs.declared.turn.Turn.{Turn}
 use Rattle.driver.specs.declared.turn.Turn.TheVariants as turn
 use Rattle.line_agenda.specs.declared.doing.Transaction.{Transaction}
-use Rattle.line_agenda.specs.declared.doing.Chosen.{Chosen}
+use Rattle.line_agenda.specs.declared.doing.LineChoice.{LineChoice}
 use Rattle.line_agenda.specs.declared.doing.Doing.{Doing}
 use Rattle.line_agenda.specs.declared.doing.Doing.TheVariants as doing
 
@@ -31,34 +31,34 @@ abbrev pub broken_transaction : Transaction → Transaction
 broken_transaction b = record b { broken = true }
 
 -- this is asked for of a line, and this transaction is open then
-abbrev pub in_transaction : Turn → Doing → Option Transaction → Chosen
+abbrev pub in_transaction : Turn → Doing → Option Transaction → LineChoice
 in_transaction asked done b = record { turn = asked; doing = done; held = hold.Free; transaction = b }
 
 -- a line of which nothing is said or done
-abbrev pub in_silence : Transaction → Chosen
+abbrev pub in_silence : Transaction → LineChoice
 in_silence b = in_transaction turn.Nothing doing.Nothing (Some b)
 
 -- a line that can't stand in a transaction is a bad one, and breaks it
-abbrev pub first_bad : Transaction → ℕ → Chosen
+abbrev pub first_bad : Transaction → ℕ → LineChoice
 first_bad b number = in_transaction (turn.Show (show.Note (note.Bad number))) (doing.Line true) (Some (broken_transaction b))
 
 -- of those after it nothing is said
-abbrev pub breaks_transaction : Transaction → ℕ → Chosen
+abbrev pub breaks_transaction : Transaction → ℕ → LineChoice
 breaks_transaction b number = cond b.broken (in_silence b) (first_bad b number)
 
 -- A command is kept where it only changes the worksheet, the transaction isn't broken, and it has fewer than 1,024.
-abbrev pub keeps_command : Transaction → ℕ → Event → Chosen
+abbrev pub keeps_command : Transaction → ℕ → Event → LineChoice
 keeps_command b number e = cond (not b.broken && (is_edit e && nat_lt (length b.edits) most_together)) (in_silence (with_edit b e)) (breaks_transaction b number)
 
 -- What the end of a transaction asks for, by whether it is broken, by its commands, and by the numbers of its first and its last line. Commands are taken by
 -- the numbers of their lines, which are those directly before the last. Of a broken transaction nothing is done.
-abbrev pub ends_transaction : Bool → List Event → ℕ → ℕ → Chosen
+abbrev pub ends_transaction : Bool → List Event → ℕ → ℕ → LineChoice
 ends_transaction true edits first last = in_transaction (turn.Show (show.Note (note.Undone first last))) (doing.Line false) None
 ends_transaction false [] first last = in_transaction (turn.Show (show.Note (note.Nothing last))) (doing.Line false) None
 ends_transaction false (e ∷ edits) first last = in_transaction (turn.Whole (last - length (e ∷ edits)) (e ∷ edits)) (doing.Transaction first) None
 
 -- what the line with this number asks for in a transaction
-abbrev pub asked_in : Transaction → ℕ → Option LiveLine → Chosen
+abbrev pub asked_in : Transaction → ℕ → Option LiveLine → LineChoice
 asked_in b number None = breaks_transaction b number
 asked_in b number (Some (live.Script line.Skip)) = breaks_transaction b number
 asked_in b number (Some (live.Script (line.Command command))) = keeps_command b number (event.Command command)

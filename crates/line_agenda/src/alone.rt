@@ -9,7 +9,7 @@ ghost use Rattle.live.specs.Saying.{IsCommand};
 ghost use Rattle.line_agenda.specs.Alone.{AsksTurn, AsksAlone, AsksCommand, BeginsWait};
 ghost use Rattle.line_agenda.specs.declared.doing.Doing.TheVariants as does;
 
-use crate::doing::{Chosen, Doing, Transaction};
+use crate::doing::{Doing, LineChoice, Transaction};
 use crate::gathering::add_command;
 use crate::waits::{lacks_field, lacks_session, untimed};
 use child_edge::is_idle;
@@ -32,11 +32,11 @@ pub(crate) struct Reading {
 }
 
 /// This is asked for, of a line that says no command, which goes wrong or not.
-fn by_itself(turn: Turn, wrong: bool) -> Chosen
+fn by_itself(turn: Turn, wrong: bool) -> LineChoice
     ensures asks { AsksTurn turn result }
     ensures doing { result.doing ≡ does.Line wrong }
 {
-    Chosen {
+    LineChoice {
         turn,
         doing: Doing::Line(wrong),
         held: Hold::Free,
@@ -45,20 +45,20 @@ fn by_itself(turn: Turn, wrong: bool) -> Chosen
 }
 
 /// A line that isn't known.
-pub(crate) fn bad(at: Reading) -> Chosen
+pub(crate) fn bad(at: Reading) -> LineChoice
     ensures { (w : World) → AsksAlone at.manner at.number w at.now None result }
 {
     by_itself(Turn::Show(Show::Note(Note::Bad(at.number))), true)
 }
 
 /// A wait begins, which is over at once where no item waits.
-fn begin<D: Disk>(host: &Host<D>, number: u64, begun: Hold) -> Chosen
+fn begin<D: Disk>(host: &Host<D>, number: u64, begun: Hold) -> LineChoice
     ensures { (w : World) → IsHost host.now w → BeginsWait number w begun result }
 {
     if is_idle(host.looks()) {
         by_itself(Turn::Show(Show::Note(Note::Waited(number, false))), false)
     } else {
-        Chosen {
+        LineChoice {
             turn: Turn::Nothing,
             doing: Doing::Line(false),
             held: begun,
@@ -94,12 +94,12 @@ fn command_turn(alloc: Global, number: u64, command: Command) -> Result<Turn, Al
 }
 
 /// What a command asks for, and what is done after it.
-fn choose_command(alloc: Global, at: Reading, command: Command) -> Result<Chosen, AllocError>
+fn choose_command(alloc: Global, at: Reading, command: Command) -> Result<LineChoice, AllocError>
     ensures { (w : World) → IfOk result (AsksAlone at.manner at.number w at.now
         (Some (LiveLine.Script (ScriptLine.Command command)))) }
 {
     match command_turn(alloc, at.number, command) {
-        Ok(turn) => Ok(Chosen {
+        Ok(turn) => Ok(LineChoice {
             turn,
             doing: Doing::Commands,
             held: Hold::Free,
@@ -115,7 +115,7 @@ fn choose_script<D: Disk>(
     host: &Host<D>,
     at: Reading,
     said: ScriptLine,
-) -> Result<Chosen, AllocError>
+) -> Result<LineChoice, AllocError>
     ensures ok { (w : World) → IsHost host.now w
         → IfOk result (AsksAlone at.manner at.number w at.now (Some (LiveLine.Script said))) }
     ensures err { OnErr result (IsCommand (Some (LiveLine.Script said))) }
@@ -129,11 +129,11 @@ fn choose_script<D: Disk>(
 }
 
 /// An interrupt, for which a line asks.
-fn choose_interrupt<D: Disk>(host: &Host<D>, at: Reading, name: Name) -> Chosen
+fn choose_interrupt<D: Disk>(host: &Host<D>, at: Reading, name: Name) -> LineChoice
     ensures { (w : World) → IsHost host.now w
         → AsksAlone at.manner at.number w at.now (Some (LiveLine.Interrupt name)) result }
 {
-    Chosen {
+    LineChoice {
         turn: Turn::Interrupt(name),
         doing: Doing::Interrupt(name, lacks_session(host, name)),
         held: Hold::Free,
@@ -142,10 +142,10 @@ fn choose_interrupt<D: Disk>(host: &Host<D>, at: Reading, name: Name) -> Chosen
 }
 
 /// A transaction begins.
-fn begin_transaction(alloc: Global, at: Reading) -> Chosen
+fn begin_transaction(alloc: Global, at: Reading) -> LineChoice
     ensures { (w : World) → AsksAlone at.manner at.number w at.now (Some LiveLine.Begin) result }
 {
-    Chosen {
+    LineChoice {
         turn: Turn::Show(Show::Note(Note::Nothing(at.number))),
         doing: Doing::Line(false),
         held: Hold::Free,
@@ -163,7 +163,7 @@ fn choose<D: Disk>(
     host: &Host<D>,
     at: Reading,
     said: LiveLine,
-) -> Result<Chosen, AllocError>
+) -> Result<LineChoice, AllocError>
     ensures ok { (w : World) → IsHost host.now w
         → IfOk result (AsksAlone at.manner at.number w at.now (Some said)) }
     ensures err { OnErr result (IsCommand (Some said)) }
@@ -193,7 +193,7 @@ pub(crate) fn choose_line<D: Disk>(
     host: &Host<D>,
     at: Reading,
     line: &[u8],
-) -> Result<Chosen, AllocError>
+) -> Result<LineChoice, AllocError>
     ensures ok { (w : World) → IsHost host.now w
         → IfOk result (AsksAlone at.manner at.number w at.now (live_line_of line.now)) }
     ensures err { OnErr result (IsCommand (live_line_of line.now)) }

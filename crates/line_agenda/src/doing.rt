@@ -40,7 +40,7 @@ pub struct Transaction {
 
 /// What a line asks for, what is done then, the wait that holds back the lines after it, and the transaction that is open then.
 #[derive(Drop)]
-pub struct Chosen {
+pub struct LineChoice {
     pub turn: Turn,
     pub doing: Doing,
     pub held: Hold,

@@ -13,5 +13,5 @@ mod transactions;
 pub mod waits;
 
 pub use by_lines::ByLines;
-pub use doing::{Chosen, Doing, Transaction};
+pub use doing::{Doing, LineChoice, Transaction};
 pub use matter::Matter;

@@ -7,7 +7,7 @@ ghost use Rattle.live.specs.LiveLines.{live_line_of};
 
 use crate::alone::{Reading, bad, choose_line};
 use crate::by_lines::ByLines;
-use crate::doing::{Chosen, Doing, Transaction};
+use crate::doing::{Doing, LineChoice, Transaction};
 use crate::gathering::gather;
 use crate::transactions::{break_at, choose_in_transaction};
 use arrivals::NextLine;
@@ -41,13 +41,13 @@ impl<R: Read> ByLines<R> {
     }
 
     /// This was chosen for the next line.
-    fn follow(&mut self, chosen: Chosen) -> Turn
+    fn follow(&mut self, chosen: LineChoice) -> Turn
         requires { self.old.number + 1 < 2 ^ 64 }
         ensures turn { result ≡ chosen.turn }
         ensures stands { lines_stand R.remaining self.new ≡ after_line
             (lines_stand R.remaining self.old) chosen }
     {
-        let Chosen {
+        let LineChoice {
             turn,
             doing,
             held,

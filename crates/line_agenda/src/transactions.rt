@@ -9,7 +9,7 @@ ghost use Rattle.live.specs.Saying.{IsCommand};
 ghost use Rattle.line_agenda.specs.Transactions as transactions;
 ghost use Rattle.line_agenda.specs.Heeds as heeds;
 
-use crate::doing::{Chosen, Doing, Transaction};
+use crate::doing::{Doing, LineChoice, Transaction};
 use child_edge::MOST_TOGETHER;
 use driver::{Came, Show, Turn};
 use host_events::{Command, Outcome};
@@ -20,10 +20,10 @@ use std::alloc::{AllocError, Global};
 use tellings::Note;
 
 /// This is asked for of a line, and this transaction is open then.
-fn in_transaction(turn: Turn, doing: Doing, transaction: Option<Transaction>) -> Chosen
+fn in_transaction(turn: Turn, doing: Doing, transaction: Option<Transaction>) -> LineChoice
     ensures { result ≡ transactions.in_transaction turn doing transaction }
 {
-    Chosen {
+    LineChoice {
         turn,
         doing,
         held: Hold::Free,
@@ -32,14 +32,14 @@ fn in_transaction(turn: Turn, doing: Doing, transaction: Option<Transaction>) ->
 }
 
 /// A line of which nothing is said or done.
-fn in_silence(transaction: Transaction) -> Chosen
+fn in_silence(transaction: Transaction) -> LineChoice
     ensures { result ≡ transactions.in_silence transaction }
 {
     in_transaction(Turn::Nothing, Doing::Nothing, Some(transaction))
 }
 
 /// A line that can't stand in a transaction.
-pub(crate) fn break_at(transaction: Transaction, number: u64) -> Chosen
+pub(crate) fn break_at(transaction: Transaction, number: u64) -> LineChoice
     ensures { result ≡ transactions.breaks_transaction transaction number }
 {
     if transaction.broken {
@@ -57,7 +57,7 @@ pub(crate) fn break_at(transaction: Transaction, number: u64) -> Chosen
 /// A command, which is kept where it only changes the worksheet and there is room for it.
 ///
 /// `AllocError` where there is no memory for it.
-fn keep(transaction: Transaction, number: u64, command: Command) -> Result<Chosen, AllocError>
+fn keep(transaction: Transaction, number: u64, command: Command) -> Result<LineChoice, AllocError>
     ensures { IfOk result (λ chosen. chosen ≡ transactions.keeps_command transaction number
         (asks.Command command)) }
 {
@@ -73,7 +73,7 @@ fn keep(transaction: Transaction, number: u64, command: Command) -> Result<Chose
 }
 
 /// The end of a transaction of which nothing is taken: this is noted.
-fn end_with(note: Note) -> Chosen
+fn end_with(note: Note) -> LineChoice
     ensures { result ≡ transactions.in_transaction (Turn.Show (Show.Note note))
         (Doing.Line false) None }
 {
@@ -81,7 +81,7 @@ fn end_with(note: Note) -> Chosen
 }
 
 /// The end of a transaction.
-fn end(transaction: Transaction, last: u64) -> Chosen
+fn end(transaction: Transaction, last: u64) -> LineChoice
     ensures { result ≡ transactions.ends_transaction transaction.broken transaction.edits
         transaction.first last }
 {
@@ -105,7 +105,7 @@ fn choose_script(
     transaction: Transaction,
     number: u64,
     said: ScriptLine,
-) -> Result<Chosen, AllocError>
+) -> Result<LineChoice, AllocError>
     ensures ok { IfOk result (λ chosen. chosen ≡ transactions.asked_in transaction number
         (Some (LiveLine.Script said))) }
     ensures err { OnErr result (IsCommand (Some (LiveLine.Script said))) }
@@ -120,7 +120,7 @@ fn choose_script(
 }
 
 /// What this asks for in a transaction.
-fn choose(transaction: Transaction, number: u64, said: LiveLine) -> Result<Chosen, AllocError>
+fn choose(transaction: Transaction, number: u64, said: LiveLine) -> Result<LineChoice, AllocError>
     ensures ok { IfOk result (λ chosen. chosen ≡ transactions.asked_in transaction number
         (Some said)) }
     ensures err { OnErr result (IsCommand (Some said)) }
@@ -144,7 +144,7 @@ pub(crate) fn choose_in_transaction(
     transaction: Transaction,
     number: u64,
     line: &[u8],
-) -> Result<Chosen, AllocError>
+) -> Result<LineChoice, AllocError>
     ensures ok { IfOk result (λ chosen. chosen ≡ transactions.asked_in transaction number
         (live_line_of line.now)) }
     ensures err { OnErr result (IsCommand (live_line_of line.now)) }

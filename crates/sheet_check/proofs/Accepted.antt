@@ -17,8 +17,8 @@ use Rattle.worksheet.specs.Laws.{HasShortPrompt, IsField, OpsMakeWorksheets}
 use Rattle.worksheet.specs.Ops.{field_of, next_after, order_after, order_from, sheet_of}
 use Rattle.recovery.specs.Sheets.{StoreView}
 use Rattle.sheet_check.specs.Kept.{Stores}
-use Rattle.sheet_check.specs.declared.accept.AcceptFault.{AcceptFault}
-use Rattle.sheet_check.specs.declared.accept.AcceptFault.TheVariants as refused
+use Rattle.sheet_check.specs.declared.accept.PutFault.{PutFault}
+use Rattle.sheet_check.specs.declared.accept.PutFault.TheVariants as refused
 use Rattle.session_engine.specs.World.{World}
 use Rattle.session_engine.specs.Host.{HostView, IsHost}
 use Rattle.child_edge.specs.Faithful.{At, at}
@@ -120,7 +120,7 @@ short_in law h w host asked id v = short-accepted v (came_if asked (shown_in w i
 
 -- Why an answer wasn't accepted.
 
-pub not_taken : (ops more : List Op) (disk : DiskView) (ones : List Op) (new : StoreView) (a : Option (List ℕ)) (why : AcceptFault) → NotPut (storing ops more disk new) ones why → NotTaken (storing ops more disk new) ones a a (fault_of_acceptance why)
+pub not_taken : (ops more : List Op) (disk : DiskView) (ones : List Op) (new : StoreView) (a : Option (List ℕ)) (why : PutFault) → NotPut (storing ops more disk new) ones why → NotTaken (storing ops more disk new) ones a a (fault_of_acceptance why)
 not_taken ops more disk ones new a refused.Full p = inside.full p.0 refl p.1 p.2 p.3 refl
 not_taken ops more disk ones new a refused.OutOfMemory p = inside.unremembered refl p refl
 not_taken ops more disk ones new a refused.Disk p = inside.broken p.0 refl p.1 p.2 refl

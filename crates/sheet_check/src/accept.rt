@@ -13,7 +13,7 @@ use worksheet::{Answer, Op};
 
 /// Why an answer wasn't accepted.
 #[derive(Clone, Copy, Debug, PartialEq, Eq)]
-pub enum AcceptFault {
+pub enum PutFault {
     /// It doesn't fit on the disk. Nothing was changed.
     Full,
     /// A growth was refused. Nothing was changed.
@@ -23,19 +23,19 @@ pub enum AcceptFault {
 }
 
 /// Why an answer wasn't accepted, by why its op wasn't committed.
-fn fault_of(fault: &CommitFault) -> AcceptFault
+fn fault_of(fault: &CommitFault) -> PutFault
     ensures { result ≡ fault_for fault.now }
 {
     match fault {
-        CommitFault::Full(_) => AcceptFault::Full,
-        CommitFault::OutOfMemory(_) => AcceptFault::OutOfMemory,
-        CommitFault::Disk | CommitFault::Closed => AcceptFault::Disk,
+        CommitFault::Full(_) => PutFault::Full,
+        CommitFault::OutOfMemory(_) => PutFault::OutOfMemory,
+        CommitFault::Disk | CommitFault::Closed => PutFault::Disk,
     }
 }
 
 /// Puts an answer into a field of a worksheet, in place of what it shows. It is durable before this
 /// returns.
-pub fn accept<D: Disk>(store: &mut Store<D>, id: u32, answer: Answer) -> Result<(), AcceptFault>
+pub fn accept<D: Disk>(store: &mut Store<D>, id: u32, answer: Answer) -> Result<(), PutFault>
     requires open { store.old.closed ≡ false }
     requires there { has_field store.old.sheet.contents id ≡ true }
     requires short { length answer.prompt ≤ longest_kept_prompt }

@@ -29,7 +29,7 @@ use crate::manner::{Manner, Suite};
 use crate::named::{CheckFault, accept_named};
 use crate::progress::{Progress, Sight};
 use crate::sessions::count_checked;
-use crate::turns::Turn;
+use crate::turns::FieldTurn;
 use arrivals::Sources;
 use check_report::{Counts, Format};
 use child_edge::stop_all;
@@ -41,7 +41,7 @@ use std::io::Write;
 
 /// Checks a field, where it is one of those that are, and accepts what came where it differs or is new. The counts with what that came to, which are shown.
 fn accept_field<D: Disk, S: Disk, C: Sources, W: Write, P: Progress>(
-    turn: &Turn<'_>,
+    turn: &FieldTurn<'_>,
     driver: &mut CopyDriver<D, C>,
     store: &mut Store<S>,
     progress: &mut P,
@@ -119,7 +119,7 @@ fn accept_fields<D: Disk, S: Disk, C: Sources, W: Write, P: Progress>(
     let mut counts = Counts::none();
     let mut fields = suite.sheet.fields();
     while let Some(field) = fields.next() {
-        let turn = Turn {
+        let turn = FieldTurn {
             manner: suite.manner,
             field,
             counts,

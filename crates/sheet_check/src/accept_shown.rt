@@ -18,12 +18,12 @@ ghost use Rattle.sheet_check.specs.Progress.{LeavesLine, MakesRoom};
 ghost use Rattle.sheet_check.specs.inside.Accepting.{FieldBroke, Finds, NotPut, NotTaken, ShownTook, fault_of_acceptance, storing};
 ghost use Rattle.sheet_check.specs.inside.Checking.{question};
 
-use crate::accept::{AcceptFault, accept};
+use crate::accept::{PutFault, accept};
 use crate::driving::CopyDriver;
 use crate::evaluating::evaluate;
 use crate::progress::Progress;
 use crate::telling::make_room;
-use crate::turns::Turn;
+use crate::turns::FieldTurn;
 use arrivals::Sources;
 use block_tree::OutOfMemory;
 use check_report::{
@@ -122,18 +122,18 @@ fn find_on_copy<D: Disk>(
 }
 
 /// The fault of a check by why an answer wasn't accepted.
-fn accept_fault(why: AcceptFault) -> RunFault
+fn accept_fault(why: PutFault) -> RunFault
     ensures { result ≡ fault_of_acceptance why }
 {
     match why {
-        AcceptFault::Full => RunFault::Host(HostFault::JournalFull),
-        AcceptFault::OutOfMemory => RunFault::OutOfMemory,
-        AcceptFault::Disk => RunFault::Host(HostFault::Disk),
+        PutFault::Full => RunFault::Host(HostFault::JournalFull),
+        PutFault::OutOfMemory => RunFault::OutOfMemory,
+        PutFault::Disk => RunFault::Host(HostFault::Disk),
     }
 }
 
 /// Puts an answer into a field of the worksheet on the disk, where there is one.
-fn put<D: Disk>(store: &mut Store<D>, id: u32, answer: Option<Answer>) -> Result<(), AcceptFault>
+fn put<D: Disk>(store: &mut Store<D>, id: u32, answer: Option<Answer>) -> Result<(), PutFault>
     requires open { store.old.closed ≡ false }
     requires there { has_field store.old.sheet.contents id ≡ true }
     requires short { HasShortPrompt answer }
@@ -204,7 +204,7 @@ fn take<D: Disk, W: Write, P: Progress>(
 
 /// Evaluates a field that is checked, and accepts and tells what that came to.
 pub(crate) fn accept_shown<D: Disk, S: Disk, C: Sources, W: Write, P: Progress>(
-    turn: &Turn<'_>,
+    turn: &FieldTurn<'_>,
     driver: &mut CopyDriver<D, C>,
     store: &mut Store<S>,
     progress: &mut P,

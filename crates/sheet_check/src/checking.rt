@@ -28,7 +28,7 @@ use crate::named::{CheckFault, check_named};
 use crate::progress::{Progress, Sight};
 use crate::sessions::count_checked;
 use crate::telling::{Tried, tell_what_came};
-use crate::turns::Turn;
+use crate::turns::FieldTurn;
 use arrivals::Sources;
 use check_report::{Counts, Format, Judgement, open_report};
 use child_edge::stop_all;
@@ -41,7 +41,7 @@ use worksheet::Sheet;
 
 /// Evaluates a field that is checked, and tells what that came to.
 fn check_shown<D: Disk, C: Sources, W: Write, P: Progress>(
-    turn: &Turn<'_>,
+    turn: &FieldTurn<'_>,
     driver: &mut CopyDriver<D, C>,
     progress: &mut P,
     writer: &mut W,
@@ -76,7 +76,7 @@ fn check_shown<D: Disk, C: Sources, W: Write, P: Progress>(
 
 /// Checks a field, where it is one of those that are. The counts with what that came to, which are shown.
 fn check_field<D: Disk, C: Sources, W: Write, P: Progress>(
-    turn: &Turn<'_>,
+    turn: &FieldTurn<'_>,
     driver: &mut CopyDriver<D, C>,
     progress: &mut P,
     writer: &mut W,
@@ -150,7 +150,7 @@ fn check_fields<D: Disk, C: Sources, W: Write, P: Progress>(
     let mut counts = Counts::none();
     let mut fields = sheet.fields();
     while let Some(field) = fields.next() {
-        let turn = Turn {
+        let turn = FieldTurn {
             manner: *manner,
             field,
             counts,

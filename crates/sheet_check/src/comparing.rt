@@ -14,7 +14,7 @@ use crate::marked::is_in_time;
 use crate::progress::Progress;
 use crate::sessions::count_checked;
 use crate::telling::{Tried, tell_what_came};
-use crate::turns::Turn;
+use crate::turns::FieldTurn;
 use arrivals::Sources;
 use check_report::Counts;
 use disk_model::Disk;
@@ -25,7 +25,7 @@ use worksheet::Sheet;
 /// Compares a field, where it is one of those that are checked, with what it shows on the copy, and tells what
 /// that came to. The counts with that, which are shown.
 fn compare_field<D: Disk, C: Sources, W: Write, P: Progress>(
-    turn: &Turn<'_>,
+    turn: &FieldTurn<'_>,
     driver: &CopyDriver<D, C>,
     progress: &mut P,
     writer: &mut W,
@@ -92,7 +92,7 @@ pub(crate) fn compare_fields<D: Disk, C: Sources, W: Write, P: Progress>(
     let mut counts = Counts::none();
     let mut fields = sheet.fields();
     while let Some(field) = fields.next() {
-        let turn = Turn {
+        let turn = FieldTurn {
             manner: *manner,
             field,
             counts,

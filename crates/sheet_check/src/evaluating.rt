@@ -85,7 +85,7 @@ fn is_down<D: Disk>(host: &Host<D>, session: Name) -> bool
 
 /// What an evaluation came to.
 #[derive(Clone, Copy, Debug)]
-pub(crate) struct Came {
+pub(crate) struct FieldCame {
     /// Whether the answer that the field shows then is one that came.
     pub(crate) is_there: bool,
     /// What the evaluation took.
@@ -93,11 +93,11 @@ pub(crate) struct Came {
 }
 
 /// What it came to, by whether an answer came; by the clock's two readings; and by whether no interpreter was there.
-fn came_of(is_there: bool, begun: u64, ended: u64, started: bool) -> Came
+fn came_of(is_there: bool, begun: u64, ended: u64, started: bool) -> FieldCame
     ensures there { result.is_there ≡ is_there }
     ensures took { result.took ≡ record { millis = ended - begun; started = started } }
 {
-    Came {
+    FieldCame {
         is_there,
         took: Took {
             millis: ended.saturating_sub(begun),
@@ -135,7 +135,7 @@ pub(crate) fn evaluate<D: Disk, C: Sources>(
     driver: &mut CopyDriver<D, C>,
     limit: Option<u32>,
     field: &Field,
-) -> Result<Came, RunFault>
+) -> Result<FieldCame, RunFault>
     ensures ok { (w : World) → IsHost driver.old.host w → IfOk result (λ came. (t : World)
         × Evaluated (way C.after C.clock C.wakes limit) field.now
         (at w driver.old.sources driver.old.host.store.disk)

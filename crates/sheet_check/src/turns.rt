@@ -10,7 +10,7 @@ use worksheet::Field;
 
 /// The turn of a field in a check.
 #[derive(Clone, Copy)]
-pub(crate) struct Turn<'a> {
+pub(crate) struct FieldTurn<'a> {
     pub(crate) manner: Manner<'a>,
     pub(crate) field: &'a Field,
     /// What those before it came to.
@@ -19,7 +19,7 @@ pub(crate) struct Turn<'a> {
     pub(crate) all: u32,
 }
 
-impl Turn<'_> {
+impl FieldTurn<'_> {
     /// Which case of the report the field is, where it is one.
     pub(crate) fn number(&self) -> u64
         requires { total self.now.counts < 2 ^ 31 }

@@ -9,8 +9,8 @@ use Rattle.worksheet.specs.Contents.{Contents}
 use Rattle.worksheet.specs.Ops.{sheet_of}
 use Rattle.recovery.specs.Sheets.{StoreView}
 use Rattle.sheet_check.specs.Kept.{HoldsBut, NoPlace, Stores}
-use Rattle.sheet_check.specs.declared.accept.AcceptFault.{AcceptFault}
-use Rattle.sheet_check.specs.declared.accept.AcceptFault.TheVariants as refused
+use Rattle.sheet_check.specs.declared.accept.PutFault.{PutFault}
+use Rattle.sheet_check.specs.declared.accept.PutFault.TheVariants as refused
 use Rattle.host_events.specs.declared.outcome.HostFault.TheVariants as hosts
 use Rattle.session_engine.specs.World.{World}
 use Rattle.session_engine.specs.Host.{HostView, IsHost}
@@ -40,7 +40,7 @@ pub record Finds (chosen : Chosen) (field : Field) (came : Option Answer) (found
   pub reported : found.text.items ≡ acceptance_text field came found.judgement.verdict
 
 -- the fault of a check by why an answer wasn't accepted
-abbrev pub fault_of_acceptance : AcceptFault → RunFault
+abbrev pub fault_of_acceptance : PutFault → RunFault
 fault_of_acceptance refused.Full = fault.Host hosts.JournalFull
 fault_of_acceptance refused.OutOfMemory = fault.OutOfMemory
 fault_of_acceptance refused.Disk = fault.Host hosts.Disk
@@ -64,7 +64,7 @@ abbrev pub PutAll : Storing → List Op → Type 0
 PutAll x ones = Stores x.ops (x.more ++ ones) x.disk x.store
 
 -- what a fault leaves where these are to be put after the others
-abbrev pub NotPut : Storing → List Op → AcceptFault → Type 0
+abbrev pub NotPut : Storing → List Op → PutFault → Type 0
 NotPut x ones refused.Full = (one : Op) × (ones ≡ one ∷ []) × PutNone x × NoPlace one x.store.disk
 NotPut x ones refused.OutOfMemory = PutNone x
 NotPut x ones refused.Disk = (one : Op) × (ones ≡ one ∷ []) × HoldsBut x.ops x.more one x.disk x.store.disk

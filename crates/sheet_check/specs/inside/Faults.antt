@@ -1,10 +1,10 @@
 -- Why an answer isn't accepted, by why its op isn't committed.
 use Rattle.recovery.specs.declared.fault.CommitFault.{CommitFault}
 use Rattle.recovery.specs.declared.fault.CommitFault.TheVariants as commits
-use Rattle.sheet_check.specs.declared.accept.AcceptFault.{AcceptFault}
-use Rattle.sheet_check.specs.declared.accept.AcceptFault.TheVariants as fault
+use Rattle.sheet_check.specs.declared.accept.PutFault.{PutFault}
+use Rattle.sheet_check.specs.declared.accept.PutFault.TheVariants as fault
 
-abbrev pub fault_for : CommitFault → AcceptFault
+abbrev pub fault_for : CommitFault → PutFault
 fault_for (commits.Full back) = fault.Full
 fault_for (commits.OutOfMemory back) = fault.OutOfMemory
 fault_for commits.Disk = fault.Disk
