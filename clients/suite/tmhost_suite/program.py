@@ -28,7 +28,7 @@ from .rules import as_wanted
 from .running import Plan, run
 from .telling import Teller, cut, standard
 from .readers import as_text, read_other
-from .text import Text, names_sessions
+from .text import Text, looks_like_a_suite, names_sessions
 
 ABOUT = "Runs test suites that are texts: evaluates the code in their fences, and compares what comes with the answers after them."
 NOTES = """
@@ -154,7 +154,7 @@ def suites_of(path: str) -> List[str]:
 def is_suite(path: str) -> bool:
     try:
         with open(path, encoding="utf-8", errors="replace", newline="") as file:
-            return names_sessions(file.read())
+            return looks_like_a_suite(file.read())
     except (OSError, Trouble):
         return True
 
