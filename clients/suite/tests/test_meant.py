@@ -1,7 +1,10 @@
 """What is said, over the real program, of a suite whose front matter or command line most likely is misspelt."""
 import os
+from unittest import mock
 
 from .support import Case, case
+from tmhost_suite import program
+from tmhost_suite.telling import standard
 
 
 class Keys(Case):
@@ -26,3 +29,10 @@ class Keys(Case):
                 ran = self.run_suite(word)
                 self.assertEqual((ran.status, ran.errors), (1, f"tmhost-suite: folder/suite.md: the front matter has '{key}': is sessions meant?\n"))
         self.assertEqual(self.log("a"), [])
+
+    def test_a_folder_is_walked_once(self) -> None:
+        self.write(case("say 1", "1"))
+        given = program.arguments([self.folder, "--tap", self.place("report")])
+        with mock.patch.object(program, "suites_of", return_value=[]) as walked:
+            self.assertTrue(program.Runner(given, standard()).run())
+        walked.assert_called_once_with(self.folder)

@@ -183,11 +183,11 @@ class Runner:
 
     def run(self) -> bool:
         number, parts = self.given.shard
-        self._refuse_places()
+        paths = self._paths()
+        self._refuse_places(paths)
         if self.given.runs:
             os.makedirs(self.given.runs, exist_ok=True)
-        paths = self._paths()[number - 1 :: parts]
-        suites = [found for found in map(self._read, paths) if found is not None]
+        suites = [found for found in map(self._read, paths[number - 1 :: parts]) if found is not None]
         for doubt in (doubt for suite, _ in suites for doubt in suite.doubts):
             self.teller.say(doubt)
         for suite, _ in suites:
@@ -232,9 +232,9 @@ class Runner:
             with self._reported_of(ran.path):
                 worksheets.finish(ran.sheet, ran.path, ran.trace, ran.is_ok)
 
-    def _refuse_places(self) -> None:
+    def _refuse_places(self, paths: List[str]) -> None:
         """A report that can't be written where it is wanted is refused before anything is evaluated, which may take hours."""
-        suites = [os.path.realpath(path) for path in self._paths()]
+        suites = [os.path.realpath(path) for path in paths]
         kept = [*suites, *(end for path in suites for run in [os.path.realpath(worksheets.sheet_path(path, self.given.runs))] for end in (run, run + ".alt"))]
         for name in FORMATS:
             path: Optional[str] = getattr(self.given, name)
