@@ -45,7 +45,6 @@ The status is 0 where all is as wanted, 1 where it isn't, and 2 where the words 
 """
 INTERRUPTED = 130
 MARKDOWN = ".md"
-DISK = "Disk"  # the faults of a disk that fails, or is full
 
 
 def shard(word: str) -> Tuple[int, int]:
@@ -265,8 +264,8 @@ class Runner:
             yield
         except (Trouble, TmhostError, OSError) as trouble:
             why = trouble.strerror if isinstance(trouble, OSError) else None
-            if isinstance(trouble, Died) and trouble.fault == DISK:
-                why = worksheets.no_room(os.path.dirname(worksheets.sheet_path(path, self.given.runs)) or ".")
+            if isinstance(trouble, Died):
+                why = worksheets.why_ended(trouble, worksheets.sheet_path(path, self.given.runs))
             if not self.is_broken_off.is_set():
                 self.troubles.append(reports.Trouble(path, why or str(trouble)))
 
