@@ -184,7 +184,7 @@ class Starting(Case):
         self.serve()
         reported = self.run_server(self.sheet)
         self.assertEqual((reported.returncode, reported.stdout), (1, ""))
-        self.assertIn("is in use: another program", reported.stderr)
+        self.assertIn("is in use: it is open at http://127.0.0.1:", reported.stderr)
 
     def test_what_is_no_worksheet(self) -> None:
         with open(self.sheet, "wb") as file:
