@@ -8,7 +8,7 @@ from typing import List, Optional, Tuple
 
 from tmhost_fences.blocks import blocks_of
 from tmhost_fences.fields import LINE_END, groups, language_in
-from tmhost_fences.front import front_of, matter_end
+from tmhost_fences.front import KEY_OF_MAPPING, front_of, matter_end, refuse_misspelt, sessions_meant
 from tmhost_fences.info import info_of, is_evaluated, is_hidden, is_without_text, wants_errors
 from tmhost_fences.troubles import Trouble
 
@@ -146,3 +146,21 @@ class Front(unittest.TestCase):
         for word in ("lines", "[whole]", ""):
             with self.assertRaisesRegex(Trouble, "`fences` can only be `whole`"):
                 front_of(["---", "sessions: {a: b}", f"fences: {word}", "---"])
+
+    def test_keys_that_are_misspelt(self) -> None:
+        """None is where the key that it looks like stands, too, nor one that other programs have."""
+        known = ["sessions", "fences", "normal"]
+        for keys, meant in ((["fence"], ["fences"]), (["Fences", "title"], ["fences"]), (["fense", "normals"], ["fences", "normal"])):
+            with self.assertRaises(Trouble) as raised:
+                refuse_misspelt(keys, known)
+            self.assertEqual(raised.exception.lines, tuple(f"the front matter has {key!r}: is {name} meant?" for key, name in zip(keys, meant)))
+        for keys in (["fence", "fences"], ["faces", "format"]):
+            refuse_misspelt(keys, known)
+
+    def test_sessions_that_are_misspelt(self) -> None:
+        for text, meant, of_mapping in (
+            ("session: {a: b}", "session", "session"), ("Sessions: # c\n  a: b", "Sessions", "Sessions"), ("session: 3", "session", None),
+            ("session: {a: b}\nsessions: {c: d}", None, None), ("sections: {a: b}", None, None), ("other: {a: b}", None, None),
+        ):
+            lines = ["---", *text.split("\n"), "---", "session: {a: b}"]
+            self.assertEqual((sessions_meant(lines), sessions_meant(lines, KEY_OF_MAPPING)), (meant, of_mapping), text)

@@ -1,7 +1,7 @@
 """The front matter of a text: YAML between two lines of `---`, in which the sessions stand, and `fences: whole` where each fence is one field."""
 import dataclasses
 import re
-from typing import Any, Dict, List, Optional, Sequence, Tuple
+from typing import Any, Dict, Iterable, List, Optional, Sequence, Tuple
 
 from .near import near
 from .troubles import Trouble, needed
@@ -11,7 +11,11 @@ WORD = re.compile(r"[^\x00-\x20\ud800-\udfff]+")
 MOST_WORDS = 16
 LONGEST_WORD = 1024  # bytes
 WHOLE = "whole"
+SESSIONS, FENCES = "sessions", "fences"
+# Keys of other programs, as pandoc, Quarto and Jekyll, that are a letter or two away from one of ours.
+FOREIGN = frozenset("border faces filter footer format formal order pages places sections".split())
 KEY = re.compile(r"^[\"']?(\w+)[\"']?[ \t]*:", re.MULTILINE)
+KEY_OF_MAPPING = re.compile(r"^[\"']?(\w+)[\"']?[ \t]*:[ \t]*(?:\{|(?:#.*)?\n[ \t]+\S+[ \t]*:)", re.MULTILINE)
 NAMES_SESSIONS = re.compile(r"^[ \t]*[\"']?sessions[\"']?[ \t]*:", re.MULTILINE)
 
 Sessions = Dict[str, Tuple[str, ...]]
@@ -40,11 +44,28 @@ def front_of(lines: Sequence[str]) -> Front:
     return Front(end, *read_in(text)) if NAMES_SESSIONS.search(text) else Front(0, {})
 
 
-def sessions_meant(lines: Sequence[str]) -> Optional[str]:
+def sessions_meant(lines: Sequence[str], key: "re.Pattern[str]" = KEY) -> Optional[str]:
     """The key of a front matter without sessions that most likely is a misspelt `sessions`."""
     text = "\n".join(lines[1 : max(1, matter_end(lines) - 1)])
-    found = (key for key in KEY.findall(text) if near(key.lower(), ["sessions"]) or key.lower() == "sessions")
-    return None if NAMES_SESSIONS.search(text) else next(found, None)
+    return None if NAMES_SESSIONS.search(text) else next((name for name in key.findall(text) if key_meant(name, [SESSIONS])), None)
+
+
+def key_meant(key: str, known: Sequence[str]) -> Optional[str]:
+    """The known key that is meant by another one."""
+    return None if key in FOREIGN else near(key, known)
+
+
+def why_misspelt(key: str, meant: str) -> str:
+    return f"the front matter has {ascii(key)}: is {meant} meant?"
+
+
+def refuse_misspelt(keys: Iterable[str], known: Sequence[str]) -> None:
+    """Refuses keys of a front matter that most likely are misspelt. Where the one that would be meant is there, too, it is another one."""
+    found = list(keys)
+    meant = [(key, key_meant(key, known)) for key in found]
+    reasons = [why_misspelt(key, name) for key, name in meant if name and name not in found]
+    if reasons:
+        raise Trouble(*reasons)
 
 
 def read_in(text: str) -> Tuple[Sessions, bool]:
@@ -57,14 +78,14 @@ def read_in(text: str) -> Tuple[Sessions, bool]:
         raise Trouble(f"the front matter is no YAML: {' '.join(str(error).split())}") from error
     found: Sessions = {}
     is_whole = False
-    for key, value in pairs(yaml, root, "the front matter"):
-        if key != "fences" and near(key.lower(), ["fences"]):
-            raise Trouble(f"the front matter has {ascii(key)}: is fences meant?")
-        if key == "fences":
+    found_pairs = pairs(yaml, root, "the front matter")
+    refuse_misspelt((key for key, _ in found_pairs), [FENCES])
+    for key, value in found_pairs:
+        if key == FENCES:
             is_whole = isinstance(value, yaml.ScalarNode) and value.value == WHOLE
             if not is_whole:
                 raise Trouble(f"`fences` can only be `{WHOLE}`")
-        if key == "sessions":
+        if key == SESSIONS:
             for name, words in pairs(yaml, value, "`sessions`") if not is_nothing(yaml, value) else []:
                 add(found, name, words_in(yaml, name, words))
     return found, is_whole

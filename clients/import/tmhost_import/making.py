@@ -10,7 +10,8 @@ import subprocess
 import tempfile
 
 from tmhost import find_program
-from tmhost.program import show_building
+from tmhost.advice import reason_of_end
+from tmhost.program import fault_in, show_building
 from tmhost_fences.troubles import Trouble
 
 from .fields import Sheet
@@ -34,15 +35,16 @@ def refuse_taken(new: str) -> None:
             raise Trouble(f"{ascii(path)} is there already, and stays as it is")
 
 
-def do(words: list[str], script: bytes, why: str) -> str:
-    """What the program writes; a Trouble with what it says of a failure."""
+def do(words: list[str], script: bytes, why: str, new: str) -> str:
+    """What the program writes; a Trouble with what it says of a failure to make the worksheet `new`."""
     try:
         done = subprocess.run(words, input=script, capture_output=True)
     except OSError as error:
         raise Trouble(f"{ascii(words[0])} can't be started: {error.strerror}") from error
     if done.returncode != 0:
         how = f"signal {-done.returncode}" if done.returncode < 0 else f"status {done.returncode}"
-        said = ascii(done.stderr.decode("utf-8", "replace").strip("\n"))[1:-1]
+        said = done.stderr.decode("utf-8", "replace").strip("\n")
+        said = ascii(reason_of_end(said, done.returncode, new) if fault_in(said) else said)[1:-1]
         raise Trouble(f"{why} with {how}: {said}")
     return done.stdout.decode("utf-8", "replace")
 
@@ -71,14 +73,14 @@ def sync(folder: str) -> None:
     os.close(opened)
 
 
-def fill(made: str, sheet: Sheet) -> None:
-    """Makes the worksheet in its first place."""
+def fill(made: str, sheet: Sheet, new: str) -> None:
+    """Makes the worksheet `new` in its first place."""
     host = program()
     show_building()
-    do([host, "create", made], b"", "tmhost create ended")
+    do([host, "create", made], b"", "tmhost create ended", new)
     script = "".join(line + "\n" for line in sheet.script()).encode("utf-8")
     try:
-        reported = do([host, "run", "--strict", made], script, "tmhost run ended")
+        reported = do([host, "run", "--strict", made], script, "tmhost run ended", new)
     except Trouble as trouble:
         stopped = re.search(r"stopped at line (\d+)", str(trouble))
         place = f" ({sheet.place_of_line(int(stopped[1]))})" if stopped else ""
@@ -93,7 +95,7 @@ def make(new: str, sheet: Sheet) -> None:
     try:
         with tempfile.TemporaryDirectory(prefix=".tmhost-import-", dir=place) as folder:
             made = os.path.join(folder, "sheet")
-            fill(made, sheet)
+            fill(made, sheet, new)
             publish(made, new)
     except OSError as error:
         raise Trouble(f"{ascii(new)} can't be made: {error.strerror}") from error

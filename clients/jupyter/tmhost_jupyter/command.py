@@ -5,6 +5,7 @@ import sys
 from typing import List
 
 from tmhost import TmhostError, find_program
+from tmhost.advice import advised
 
 from .installing import BadWords, install
 from .languages import LANGUAGES
@@ -62,7 +63,7 @@ def main(words: List[str]) -> int:
     except BadWords as error:
         return failed(str(error), BAD_WORDS)
     except (TmhostError, OSError) as error:
-        return failed(str(error), FAILED)
+        return failed(advised(error, getattr(given, "sheet", None) or ""), FAILED)
     return 0
 
 

@@ -6,6 +6,7 @@ from typing import Any, ClassVar, Dict, Optional
 
 from ipykernel.kernelbase import Kernel
 from tmhost import BadLine, Completions, Evaluation, Lost, Refused, TimedOut, TmhostError, readable
+from tmhost.advice import advised
 from tmhost.commands import length_of
 from tmhost.values import LINE_END
 
@@ -81,7 +82,7 @@ class WorksheetKernel(Kernel):
         except TmhostError as error:
             if self.sheet.ended():
                 self.sheet.close()
-            return self.failed(failure(type(error).__name__, f"{error}: the variables are gone, and the next cell opens the worksheet again"), silent)
+            return self.failed(failure(type(error).__name__, f"{advised(error, self.sheet.path)}: the variables are gone, and the next cell opens the worksheet again"), silent)
 
     def given_name(self) -> str:
         """The front end's name for the cell, of which an ipykernel before 6.18 doesn't tell us."""

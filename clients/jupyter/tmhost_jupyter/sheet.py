@@ -4,6 +4,7 @@ import time
 from typing import List, NamedTuple, Optional, Tuple
 
 from tmhost import Ended, Event, InUse, TmhostError, Worksheet
+from tmhost.advice import advised, reason
 
 from .cells import Cells, Names
 
@@ -89,14 +90,14 @@ class Sheet:
             return self.cells
         self.close()
         if ended:
-            raise Unusable(f"{ended}: the variables are gone, and the next cell opens the worksheet again")
+            raise Unusable(f"{advised(ended, self.path)}: the variables are gone, and the next cell opens the worksheet again")
         try:
             self.worksheet = self.tried()
             self.make_session(self.worksheet)
         except InUse:
             raise Unusable(f"another program works on the worksheet {self.path}: close it there, or run the cell again when it has ended") from None
         except (TmhostError, OSError) as error:
-            raise Unusable(f"the worksheet {self.path} can't be used: {error}") from None
+            raise Unusable(f"the worksheet {self.path} can't be used: {reason(error, self.path)}") from None
         except Unusable:
             self.close()  # others may open it
             raise

@@ -184,16 +184,29 @@ class Starting(Case):
         self.serve()
         reported = self.run_server(self.sheet)
         self.assertEqual((reported.returncode, reported.stdout), (1, ""))
-        self.assertIn("is in use: another program", reported.stderr)
+        self.assertIn("is in use: it is open at http://127.0.0.1:", reported.stderr)
 
     def test_what_is_no_worksheet(self) -> None:
         with open(self.sheet, "wb") as file:
             file.write(b"this is a letter to somebody, and no worksheet\n" * 3)
         reported = self.run_server(self.sheet)
         self.assertEqual(reported.returncode, 1)
-        self.assertIn("can't be opened", reported.stderr)
+        self.assertIn(f"{self.sheet} can't be opened: fault 31 NotASheet: it is no worksheet, or it was cut or is empty; look at the path", reported.stderr)
         with open(self.sheet, "rb") as file:
             self.assertTrue(file.read().startswith(b"this is a letter"))
+
+    def test_what_is_damaged(self) -> None:
+        """What is said names the worksheet, and what saves the rest of it."""
+        self.serve().stop()
+        with open(self.sheet, "r+b") as file:
+            file.seek(11)  # the length of the first record
+            file.write(b"\xff\xff\xff\xff")
+            file.seek(10)
+            file.write(b"R")
+        reported = self.run_server(self.sheet)
+        said = f"{self.sheet} can't be opened: fault 30 Damaged at 10: it can't be read from byte 10 on; keep both files: `tmhost rescue {self.sheet} NEW`"
+        self.assertEqual(reported.returncode, 1)
+        self.assertIn(said, reported.stderr)
 
     def test_what_is_not_there(self) -> None:
         """A look makes no worksheet, and a folder isn't made for one."""

@@ -62,12 +62,13 @@ class Second(Case):
     def test_what_is_no_worksheet(self) -> None:
         for name, hint in (
             ("text.md", "for a Markdown text use tmhost-weave or tmhost-import"), ("a.Rmd", "for a Markdown text use tmhost-weave or tmhost-import"),
-            ("a.ipynb", "tmhost-import makes one of it"), ("sheet", "tmhost help faults says more (31 NotASheet)"),
+            ("a.ipynb", "tmhost-import makes one of it"), ("sheet", ""),
         ):
             path = os.path.join(self.folder, name)
             with open(path, "w", encoding="ascii") as file:
                 file.write("# This is no worksheet at all\n")
-            self.assertEqual(self.said(path), (1, f"tmhost-notebook: {path} is no worksheet; {hint}"))
+            why = f"is no worksheet; {hint}" if hint else "can't be opened: fault 31 NotASheet: it is no worksheet, or it was cut or is empty; look at the path"
+            self.assertEqual(self.said(path), (1, f"tmhost-notebook: {path} {why}"))
 
     def test_the_version(self) -> None:
         said = subprocess.run([PROGRAM or "", "--version"], stdout=subprocess.PIPE, text=True, check=True).stdout

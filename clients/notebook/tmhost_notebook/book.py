@@ -7,6 +7,7 @@ from typing import Any, Callable, Dict, Iterator, List, Optional, Set
 
 from tmhost import Answer, Answered, BadLine, Done, Ended, Event, Field, Finished, Gone, Partial, Refused, Stopped, Worksheet
 
+from tmhost.advice import advised
 from tmhost.commands import New, input_of
 
 from . import prose, rewording, startable, telling
@@ -242,7 +243,7 @@ class Book:
             return
         with self.heard:
             if isinstance(event, Finished):
-                self.ended = "the worksheet was closed" if event.error is None else str(event.error)
+                self.ended = "the worksheet was closed" if event.error is None else advised(event.error, self.path)
                 self.partials = Partials()
                 self.feed.drop_all()
                 for watcher in self.watchers:

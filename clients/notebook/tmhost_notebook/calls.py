@@ -5,6 +5,7 @@ import os
 from typing import Any, Callable, Dict, List, Optional, Sequence
 
 from tmhost import BadLine, Closed, Completions, Died, Field, Gone, Lost, ProtocolError, Refused, TimedOut, Undone, readable
+from tmhost.advice import advised
 
 from . import in_prose, past_calls, prose, shown, startable
 from .asked import Facts, NotDone, member, members, number, text, text_or_none
@@ -355,6 +356,6 @@ def do(book: Book, asked: Any) -> Facts:
     except TimedOut as late:
         raise NotDone("TimedOut", f"{late}; it may be done yet") from None
     except (Died, Closed, ProtocolError, OSError) as error:
-        raise NotDone("Ended", f"{error}; what was shown as saved is in the file") from None
+        raise NotDone("Ended", f"{advised(error, book.path)}; what was shown as saved is in the file") from None
     finally:
         book.wake()

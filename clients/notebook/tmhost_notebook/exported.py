@@ -11,7 +11,8 @@ import tempfile
 import time
 from typing import Dict, List, Optional, Set, Tuple
 
-from tmhost.program import path_word, words_of_program
+from tmhost.advice import reason_of_end
+from tmhost.program import fault_in, path_word, words_of_program
 
 # Of each format the end of a file's name, and the kind that a browser gets.
 FORMATS: Dict[str, Tuple[str, str]] = {
@@ -60,14 +61,15 @@ def copy_of(sheet: str, folder: str) -> str:
     raise NotExported("the worksheet is changing all the time: try again when less is evaluated")
 
 
-def written_by(words: List[str], given: bytes = b"", within: float = WITHIN) -> bytes:
-    """What a command writes, within so many seconds."""
+def written_by(words: List[str], given: bytes = b"", within: float = WITHIN, of: str = "") -> bytes:
+    """What a command writes of a worksheet, or of a copy of it, within so many seconds."""
     try:
         done = subprocess.run(words, input=given, stdout=subprocess.PIPE, stderr=subprocess.PIPE, timeout=within)
     except subprocess.TimeoutExpired:
         raise NotExported("it takes too long") from None
     if done.returncode:
-        raise NotExported(f"it was refused: {done.stderr.decode('utf-8', 'backslashreplace').strip()}")
+        said = done.stderr.decode("utf-8", "backslashreplace").strip()
+        raise NotExported(f"it was refused: {reason_of_end(said, done.returncode, of) if fault_in(said) else said}")
     return done.stdout
 
 
@@ -75,7 +77,7 @@ def exported(sheet: str, program: Optional[str], name: str, prose: Set[str]) -> 
     """The worksheet in a format of this name. `prose` has the names of its sessions of prose."""
     try:
         with tempfile.TemporaryDirectory(prefix="tmhost-notebook-") as folder:
-            data = written_by([*words_of_program(program), "export", name.partition("-")[0], path_word(copy_of(sheet, folder))])
+            data = written_by([*words_of_program(program), "export", name.partition("-")[0], path_word(copy_of(sheet, folder))], of=sheet)
     except OSError as error:
         raise NotExported(f"the worksheet can't be copied: {error}") from error
     if name not in COMMANDS:

@@ -4,6 +4,7 @@ import threading
 from typing import TYPE_CHECKING, Iterable
 
 from tmhost import BadLine, Closed, Died, Field, Gone, ProtocolError, Refused, TimedOut
+from tmhost.advice import advised
 
 from . import telling
 from .sayings import SAYINGS
@@ -111,7 +112,7 @@ class Feeder:
             except Refused as refused:
                 why = SAYINGS.get(refused.name, str(refused))
             except (BadLine, Gone, TimedOut, Died, Closed, ProtocolError, OSError) as error:
-                why = str(error)
+                why = advised(error, self.book.path)
         if why is not None:
             with self.book.lock:
                 self.book.feed.being_asked = None

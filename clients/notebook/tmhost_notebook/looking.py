@@ -65,7 +65,7 @@ def seen(path: str, program: Optional[str]) -> Seen:
     if sum(os.path.getsize(path + end) for end in FILES) > LARGEST:
         raise NotExported(f"the worksheet has more than {LARGEST:,} bytes")
     with tempfile.TemporaryDirectory(prefix="tmhost-notebook-") as place:
-        lines = written_by([*words_of_program(program), "show", "--json", path_word(copy_of(path, place))], within=WITHIN).splitlines()
+        lines = written_by([*words_of_program(program), "show", "--json", path_word(copy_of(path, place))], within=WITHIN, of=path).splitlines()
     sheet = sheet_in(0, lines)
     return Seen([sheet.field(id) for id in sheet.order], sheet.sessions)
 

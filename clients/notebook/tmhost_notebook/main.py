@@ -12,6 +12,7 @@ import webbrowser
 from typing import Iterator, List, NoReturn, Optional, Union
 
 from tmhost import Died, InUse, ProtocolError, TimedOut
+from tmhost.advice import reason
 from tmhost.errors import plain
 from tmhost.program import show_building
 from tmhost.version import ShowVersion
@@ -68,10 +69,10 @@ def why_in_use(path: str) -> str:
 
 def why_not(path: str, error: Exception) -> str:
     """Why a worksheet can't be opened."""
-    if isinstance(error, Died) and error.number == NOT_A_SHEET:
-        hint = BY_END.get(os.path.splitext(path)[1].lower(), "tmhost help faults says more (31 NotASheet)")
+    hint = BY_END.get(os.path.splitext(path)[1].lower())
+    if hint and isinstance(error, Died) and error.number == NOT_A_SHEET:
         return f"{path} is no worksheet; {hint}"
-    return f"{path} can't be opened: {plain(error)}"
+    return f"{path} can't be opened: {reason(error, path)}"
 
 
 @contextlib.contextmanager

@@ -112,7 +112,7 @@ class Past:
                 raise NoPast(f"the worksheet has more than {LARGEST:,} bytes: ask `tmhost {command}` at a terminal")
             with tempfile.TemporaryDirectory(prefix="tmhost-notebook-") as folder:
                 copy = path_word(copy_of(self.path, folder))
-                return written_by([*words_of_program(self.program), command, *front, copy, *back, *after], within=WITHIN)
+                return written_by([*words_of_program(self.program), command, *front, copy, *back, *after], within=WITHIN, of=self.path)
         except NotExported as error:
             raise NoPast(str(error)) from None
         except OSError as error:

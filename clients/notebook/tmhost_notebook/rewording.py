@@ -63,7 +63,7 @@ def journal_of(path: str, session: str, words: Sequence[str]) -> bytes:
 
 def reported(path: str, program: Optional[str]) -> List[Dict[str, Any]]:
     """What the program says of a worksheet."""
-    lines = written_by([*words_of_program(program), "export", "json", path_word(path)]).splitlines()
+    lines = written_by([*words_of_program(program), "export", "json", path_word(path)], of=path).splitlines()
     return [json.loads(line) for line in lines]
 
 

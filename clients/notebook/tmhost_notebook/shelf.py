@@ -6,6 +6,7 @@ import threading
 from typing import Any, Callable, Dict, List, Optional, Set, Tuple
 
 from tmhost import Died, InUse, ProtocolError, TimedOut
+from tmhost.advice import reason
 from tmhost.errors import plain
 
 from . import asked, folder
@@ -87,7 +88,7 @@ class Shelf:
         except InUse:
             raise NotDone(f"{name} is in use: another program, as a second tmhost-notebook, has it open") from None
         except (Died, ProtocolError, TimedOut, OSError) as error:
-            raise NotDone(f"{name} can't be opened: {plain(error)}") from None
+            raise NotDone(f"{name} can't be opened: {reason(error, os.path.join(self.path, name))}") from None
         book.is_of_folder = True
         self.closed.discard(name)
         self.books[name] = book

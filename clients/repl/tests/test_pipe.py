@@ -28,6 +28,17 @@ class Pipe(Case):
         self.pipe("%session u cat\n", self.sheet, "t")
         self.assertEqual(self.pipe("x\n", self.sheet), (2, "", "tmhost-repl: name a session (there are: t, u)\n"))
 
+    def test_a_worksheet_that_cannot_be_opened(self) -> None:
+        """It is named, with the fault, what that means and what to do."""
+        self.make()
+        with open(self.sheet, "r+b") as file:
+            file.seek(11)  # the length of the first record
+            file.write(b"\xff")
+        said = f"it can't be read from byte 10 on; keep both files: `tmhost rescue {self.sheet} NEW` writes what stands before that to a new worksheet"
+        self.assertEqual(self.pipe("x\n", self.sheet, "t"), (1, "", f"tmhost-repl: {self.sheet}: fault 30 Damaged at 10: {said}\n"))
+        os.truncate(self.sheet, 3)
+        self.assertEqual(self.pipe("x\n", self.sheet, "t"), (1, "", f"tmhost-repl: {self.sheet}: fault 31 NotASheet: it is no worksheet, or it was cut or is empty; look at the path\n"))
+
     def test_what_starts_no_interpreter(self) -> None:
         self.make()
         status, out, errors = self.pipe("%session u tmhost-nothing\nx\n", self.sheet, "t")

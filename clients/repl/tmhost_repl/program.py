@@ -8,7 +8,7 @@ from types import FrameType
 from typing import List, Optional
 
 from tmhost import BadLine, Refused, TmhostError, Worksheet
-from tmhost.errors import plain
+from tmhost.advice import advised
 from tmhost.program import show_building
 from tmhost.version import ShowVersion
 
@@ -164,5 +164,5 @@ def reported(given: argparse.Namespace, console: Console) -> int:
         os.dup2(os.open(os.devnull, os.O_WRONLY), sys.stdout.fileno())
         return LOST
     except (TmhostError, OSError) as error:
-        console.note(plain(error))
+        console.note(advised(error, given.sheet))
         return LOST

@@ -169,7 +169,7 @@ class Resuming(Case):
                 time.sleep(0.05)
             ran = self.run_suite(self.path)
             self.assertEqual(ran.status, 1)
-            said = f"tmhost-suite: {self.path}: another tmhost-suite runs it; waiting\ntmhost-suite: {self.path}: {self.path}.run is in use by another program\n"
+            said = f"tmhost-suite: {self.path}: another tmhost-suite runs it; waiting\ntmhost-suite: {self.path}: {self.path}.run: fault 35 InUse: it is in use by another program; `fuser {self.path}.run` says which: wait for its end, or end it\n"
             self.assertEqual(ran.errors, said)
         finally:
             os.killpg(run.pid, signal.SIGKILL)

@@ -91,9 +91,22 @@ class Reading(unittest.TestCase):
             with self.assertRaisesRegex(Trouble, why):
                 read(text)
 
-    def test_front_matter_that_may_be_mistyped(self) -> None:
-        found = read("```a\nx\n```\n", FRONT[:-4] + "tolerence: 1\ntitle: x\nauthor: y\ndate: z\nsession: q\noutput: none\nformat: html\n---\n").suite.doubts
-        self.assertEqual(found, ("suite.md: the front matter has 'tolerence': is tolerance meant?", "suite.md: the front matter has 'session': is sessions meant?"))
+    def test_front_matter_that_is_misspelt(self) -> None:
+        """All such keys at once. Those of other programs aren't, and no key where the one that it looks like is there, too."""
+        for more, meant in (
+            ("tolerence: 1\nTimeout: 3\ntitle: x\n", ["'tolerence': is tolerance meant?", "'Timeout': is timeout meant?"]),
+            ("folders: .\nsession: q\n", ["'folders': is folder meant?"]), ("fence: whole\n", ["'fence': is fences meant?"]),
+        ):
+            with self.assertRaises(Trouble) as raised:
+                read("```a\nx\n```\n", FRONT[:-4] + more + "---\n")
+            self.assertEqual(raised.exception.lines, tuple(f"the front matter has {one}" for one in meant))
+        others = "title: x\nauthor: y\ndate: z\nsession: 3\noutput: none\nformat: html\nfooter: no\nerror: x\nerrors: apart\n"
+        self.assertEqual(len(read("```a\nx\n```\n", FRONT[:-4] + others + "---\n").cases), 1)
+        for key in ("session", "Sessions", "sesions"):
+            with self.assertRaisesRegex(Trouble, f"\\Athe front matter has '{key}': is sessions meant\\?\\Z"):
+                read("```a\nx\n```\n", FRONT.replace("sessions", key))
+        with self.assertRaisesRegex(Trouble, "the front matter is no YAML: .*unhashable key"):
+            read("```a\nx\n```\n", FRONT[:-4] + "? [a]\n: b\n---\n")
 
     def test_a_session_that_may_be_mistyped(self) -> None:
         found = self.doubts("```a\nx\n```\n\n```aa {setup}\ny\n```\n\n```c {hide}\nz\n```\n\n```python {'}\n```\n")

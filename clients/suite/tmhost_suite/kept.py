@@ -11,7 +11,8 @@ import threading
 import time
 from typing import Dict, List, NamedTuple, Optional, Set, Tuple
 
-from tmhost import Banner, Cell, Ended, Event, InUse, NoWorksheet, Refused, Stopped, Worksheet, find_program
+from tmhost import Banner, Cell, Died, Ended, Event, InUse, NoWorksheet, Refused, Stopped, Worksheet, find_program
+from tmhost.advice import advised, reason_of_end
 from tmhost_fences.troubles import Trouble
 
 from .cases import Suite
@@ -25,6 +26,8 @@ MOST = 9_500  # of the fields of a suite and a note for each case; a worksheet h
 PART = 250  # characters, each of which JSON writes in up to 12
 PATIENCE, PAUSE = 10.0, 0.05  # seconds; the program of a run that was killed needs a moment to end
 MOMENT = 0.3  # seconds; one that has a worksheet for longer runs its suite
+DISK = "Disk"  # the faults of a disk that fails, or is full
+AGAIN = "run the suite again"  # makes a worksheet again that was removed
 ENDED = "ended"  # in the last note of a run that came to its end, so there is nothing in it to go on with
 ROOM = 65_536  # bytes that a new worksheet finds on a disk that isn't full
 
@@ -151,10 +154,10 @@ def opened(path: str, of: str, suite: Optional[Suite] = None) -> Worksheet:
     while True:
         try:
             return Worksheet(os.path.abspath(path), program=program_of(suite) if suite else None)
-        except InUse:
+        except InUse as used:
             waited = time.monotonic() - began
             if waited > PATIENCE:
-                raise Trouble(f"{path} is in use by another program") from None
+                raise Trouble(advised(used, path)) from None
             if waited > MOMENT and not is_said:
                 is_said = True
                 print(f"tmhost-suite: {of}: another tmhost-suite runs it; waiting", file=sys.stderr)
@@ -169,6 +172,12 @@ def opened_or_none(path: str, of: str, suite: Optional[Suite] = None) -> Optiona
         return opened(path, of, suite)
     except NoWorksheet:
         return None
+
+
+def why_ended(died: Died, path: str) -> str:
+    """Why the program of a worksheet has ended, as a user is shown it. Of a disk it may be that there is no room."""
+    room = no_room(os.path.dirname(path) or ".") if died.fault == DISK else None
+    return room or advised(died, path, AGAIN)
 
 
 def no_room(folder: str) -> Optional[str]:
@@ -188,7 +197,8 @@ def make(path: str) -> None:
     remove(fresh)
     made = subprocess.run([find_program(), "create", os.path.join(".", fresh)], stdin=subprocess.DEVNULL, capture_output=True)
     if made.returncode != 0:
-        why = no_room(os.path.dirname(path) or ".") or made.stderr.decode("utf-8", "backslashreplace").strip()
+        said = made.stderr.decode("utf-8", "backslashreplace").strip()
+        why = no_room(os.path.dirname(path) or ".") or reason_of_end(said, made.returncode, path)
         remove(fresh)
         raise Trouble(f"{path} can't be made: {why}")
     with contextlib.suppress(FileNotFoundError):

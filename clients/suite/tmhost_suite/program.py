@@ -28,7 +28,7 @@ from .rules import as_wanted
 from .running import Plan, run
 from .telling import Teller, cut, standard
 from .readers import as_text, read_other
-from .text import Text, names_sessions
+from .text import Text, looks_like_a_suite, names_sessions
 
 ABOUT = "Runs test suites that are texts: evaluates the code in their fences, and compares what comes with the answers after them."
 NOTES = """
@@ -45,7 +45,6 @@ The status is 0 where all is as wanted, 1 where it isn't, and 2 where the words 
 """
 INTERRUPTED = 130
 MARKDOWN = ".md"
-DISK = "Disk"  # the faults of a disk that fails, or is full
 
 
 def shard(word: str) -> Tuple[int, int]:
@@ -154,7 +153,7 @@ def suites_of(path: str) -> List[str]:
 def is_suite(path: str) -> bool:
     try:
         with open(path, encoding="utf-8", errors="replace", newline="") as file:
-            return names_sessions(file.read())
+            return looks_like_a_suite(file.read())
     except (OSError, Trouble):
         return True
 
@@ -183,11 +182,11 @@ class Runner:
 
     def run(self) -> bool:
         number, parts = self.given.shard
-        self._refuse_places()
+        paths = self._paths()
+        self._refuse_places(paths)
         if self.given.runs:
             os.makedirs(self.given.runs, exist_ok=True)
-        paths = self._paths()[number - 1 :: parts]
-        suites = [found for found in map(self._read, paths) if found is not None]
+        suites = [found for found in map(self._read, paths[number - 1 :: parts]) if found is not None]
         for doubt in (doubt for suite, _ in suites for doubt in suite.doubts):
             self.teller.say(doubt)
         for suite, _ in suites:
@@ -232,9 +231,9 @@ class Runner:
             with self._reported_of(ran.path):
                 worksheets.finish(ran.sheet, ran.path, ran.trace, ran.is_ok)
 
-    def _refuse_places(self) -> None:
+    def _refuse_places(self, paths: List[str]) -> None:
         """A report that can't be written where it is wanted is refused before anything is evaluated, which may take hours."""
-        suites = [os.path.realpath(path) for path in self._paths()]
+        suites = [os.path.realpath(path) for path in paths]
         kept = [*suites, *(end for path in suites for run in [os.path.realpath(worksheets.sheet_path(path, self.given.runs))] for end in (run, run + ".alt"))]
         for name in FORMATS:
             path: Optional[str] = getattr(self.given, name)
@@ -265,8 +264,8 @@ class Runner:
             yield
         except (Trouble, TmhostError, OSError) as trouble:
             why = trouble.strerror if isinstance(trouble, OSError) else None
-            if isinstance(trouble, Died) and trouble.fault == DISK:
-                why = worksheets.no_room(os.path.dirname(worksheets.sheet_path(path, self.given.runs)) or ".")
+            if isinstance(trouble, Died):
+                why = worksheets.why_ended(trouble, worksheets.sheet_path(path, self.given.runs))
             if not self.is_broken_off.is_set():
                 self.troubles.append(reports.Trouble(path, why or str(trouble)))
 

@@ -1,7 +1,6 @@
 """The text form of a suite: CommonMark, whose fences of sessions are cases, each with a fence `answer` after it for what is wanted, and one
 `error` where errors are compared apart."""
 import dataclasses
-import difflib
 import os
 import re
 from decimal import Decimal
@@ -9,7 +8,7 @@ from typing import Any, Dict, FrozenSet, List, Optional, Sequence, Tuple
 
 from tmhost_fences.blocks import LINE, Block, blocks_of, cut
 from tmhost_fences.fields import groups, language_in, whole
-from tmhost_fences.front import Sessions, front_of, matter_end
+from tmhost_fences.front import KEY_OF_MAPPING, SESSIONS, Sessions, front_of, matter_end, refuse_misspelt, sessions_meant, why_misspelt
 from tmhost_fences.info import LITERAL, info_of
 from tmhost_fences.meant import OTHERS, session_meant
 from tmhost_fences.near import near
@@ -20,7 +19,8 @@ from .marks import has_marks, is_text, read_marks, seconds, session_in
 from .rules import FORMULAS, PICTURES, Normal, Rules, allowance, normal_of
 
 ANSWER, ERROR = "answer", "error"
-WORDS = ("sessions", "normal", "tolerance", "timeout", "spaces", "columns", "without", "errors", "folder", "fences")
+KEYS = ("sessions", "normal", "tolerance", "timeout", "spaces", "columns", "without", "errors", "folder", "fences")
+NO_SESSIONS = "the text names no sessions: its first lines must be as `---`, `sessions: {py: [tmhost-python]}`, `---`"
 RUN = re.compile("`+")
 COLUMNS = re.compile(r"[1-9][0-9]{0,5}", re.ASCII)
 
@@ -112,10 +112,15 @@ def timeout_in(front: Dict[str, Any]) -> Optional[float]:
         raise Trouble("`timeout` is no number of seconds") from None
 
 
-def doubts_in(front: Dict[str, Any], path: str) -> List[str]:
-    """Words of the front matter that look like one of a suite's. The others are for who else reads it."""
-    near = ((name, difflib.get_close_matches(str(name), WORDS, 1, 0.75)) for name in front if name not in WORDS)
-    return [f"{path}: the front matter has {ascii(name)}: is {found[0]} meant?" for name, found in near if found]
+def front_in(lines: Sequence[str]) -> Dict[str, Any]:
+    """What the front matter of these lines says. One whose keys look misspelt is refused, since its cases would be compared by other rules."""
+    yaml = needed("yaml", "python3-yaml")
+    try:
+        front: Dict[str, Any] = yaml.load("\n".join(lines), Loader=yaml.BaseLoader)
+    except yaml.YAMLError as error:
+        raise Trouble(f"the front matter is no YAML: {' '.join(str(error).split())}") from error
+    refuse_misspelt(map(str, front), KEYS)
+    return front
 
 
 def folder_in(front: Dict[str, Any], path: str) -> Optional[str]:
@@ -162,7 +167,17 @@ def misspellings(blocks: Sequence[Block], sessions: Sessions) -> List[Tuple[Bloc
 
 def names_sessions(text: str) -> bool:
     """Whether the front matter of a text names sessions."""
-    return bool(front_of([cut(line)[0] for line in LINE.findall(text)]).sessions)
+    return bool(front_of(contents_of(text)).sessions)
+
+
+def contents_of(text: str) -> List[str]:
+    """The lines of a text without their ends."""
+    return [cut(line)[0] for line in LINE.findall(text)]
+
+
+def looks_like_a_suite(text: str) -> bool:
+    """The same, and whether it most likely was to name them: it has a mapping by a name as `session`."""
+    return names_sessions(text) or sessions_meant(contents_of(text), KEY_OF_MAPPING) is not None
 
 
 class Text:
@@ -170,20 +185,19 @@ class Text:
 
     def __init__(self, path: str, text: str) -> None:
         self.lines: List[str] = LINE.findall(text)
-        contents = [cut(line)[0] for line in self.lines]
+        contents = contents_of(text)
         found = front_of(contents)
         self.sessions, self.is_whole = found.sessions, found.is_whole
+        meant = sessions_meant(contents)
         if not self.sessions:
-            raise Trouble("the text names no sessions: its first lines must be as `---`, `sessions: {py: [tmhost-python]}`, `---`")
+            raise Trouble(why_misspelt(meant, SESSIONS) if meant else NO_SESSIONS)
         first = matter_end(contents)
-        yaml = needed("yaml", "python3-yaml")
-        front = yaml.load("\n".join(contents[1 : first - 1]), Loader=yaml.BaseLoader)
+        front = front_in(contents[1 : first - 1])
         self.path = path
         self.cases: List[Case] = []
-        self.doubts: List[str] = doubts_in(front, path)
         self.spans: List[Dict[str, Span]] = []
         self._read(contents, blocks_of(contents, first))
-        self.suite = Suite(path, self.sessions, rules_in(front), timeout_in(front), tuple(self.cases), doubts=tuple(self.doubts), folder=folder_in(front, path))
+        self.suite = Suite(path, self.sessions, rules_in(front), timeout_in(front), tuple(self.cases), folder=folder_in(front, path))
 
     def _read(self, lines: List[str], blocks: List[Block]) -> None:
         # Before anything else, since a word that is misspelt has others at the wrong place.

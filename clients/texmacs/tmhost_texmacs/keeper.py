@@ -13,7 +13,8 @@ import threading
 import time
 from typing import BinaryIO, Dict, List, Optional, Tuple
 
-from tmhost import Event, Finished, InUse, TmhostError, Worksheet
+from tmhost import Event, Finished, TmhostError, Worksheet
+from tmhost.advice import advised
 
 from .offered import ensured, none_of
 from .places import address_of, folder_of_pictures
@@ -104,7 +105,7 @@ class Keeper:
     def _say_the_end(self, connection: socket.socket, error: TmhostError) -> None:
         """The program has died: nothing more goes here, and the next line of TeXmacs starts another keeper."""
         try:
-            connection.sendall(whole(f"? {error}; evaluate the line again"))
+            connection.sendall(whole(f"? {advised(error, self.sheet.path)}; evaluate the line again"))
         except OSError:
             pass  # nobody is there any more who could read it
         self.is_over.set()
@@ -163,11 +164,8 @@ def keep(sheet: str, path: str) -> int:
             tell(READY)
             Keeper(worksheet, door).serve()
             door.close()
-    except InUse:
-        tell(f"{sheet} is in use by another program")
-        return 1
     except (OSError, TmhostError) as error:
-        tell(str(error))
+        tell(advised(error, sheet))
         return 1
     return 0
 

@@ -14,6 +14,7 @@ import time
 from typing import List, Optional, Tuple
 
 from tmhost import TmhostError, Worksheet
+from tmhost.advice import advised
 
 from . import keeper, scheme
 from .document import document
@@ -244,7 +245,7 @@ def export(sheet: str) -> int:
         with Worksheet(sheet) as worksheet:
             reported = document(worksheet)
     except (OSError, TmhostError) as error:
-        print(f"tmhost-texmacs: {sheet}: {error}", file=sys.stderr)
+        print(f"tmhost-texmacs: {advised(error, sheet)}", file=sys.stderr)
         return 1
     sys.stdout.buffer.write(reported)
     return 0

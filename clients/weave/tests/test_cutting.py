@@ -1,8 +1,9 @@
 """Answers that are long: what is shown of them, what is said, and that a next weave finds them again."""
+import os
 import random
 import unittest
 
-from .support import Case, answers, fences
+from .support import ROOT, Case, answers, fences
 
 from tmhost_weave.answers import ANSWER, ERROR, FORMULA, PICTURE, Piece
 from tmhost_weave.cutting import LONGEST, NOTE, cut, size_of
@@ -28,6 +29,19 @@ class Cut(unittest.TestCase):
         self.assertEqual(cut(pieces, 100), (wanted, 30))
         pieces = [Piece(ANSWER, "a" * 100), Piece(ANSWER, "b"), Piece(ERROR, "e" * 103)]
         self.assertEqual(cut(pieces, 100), ([pieces[0], Piece(ANSWER, NOTE.format(1)), Piece(ERROR, "e" * 100 + "\n" + NOTE.format(3))], 4))
+
+    def test_what_an_adapter_has_left_out(self) -> None:
+        """Its mark stays after the note, and counts as no bytes. A line that only has such words is a text like any other."""
+        mark, other = "[1000002 bytes more]", "[7 bytes more]"
+        self.assertEqual(cut([Piece(ANSWER, "x" * 101 + "\n" + mark)], 100), ([Piece(ANSWER, "x" * 100 + "\n" + NOTE.format(1) + "\n" + mark)], 1))
+        self.assertEqual(cut([Piece(ANSWER, "x" * 100 + "\n" + mark)], 100), ([Piece(ANSWER, "x" * 100 + "\n" + mark)], 0))
+        self.assertEqual(cut([Piece(ERROR, "x" * 101 + "\n" + mark)], 100), ([Piece(ERROR, "x" * 100 + "\n" + NOTE.format(1) + "\n" + mark)], 1))
+        several = [Piece(ANSWER, "x" * 101 + "\n" + mark), Piece(FORMULA, "$y$"), Piece(ANSWER, "z\n" + other), Piece(ERROR, "no")]
+        self.assertEqual(cut(several, 100), ([Piece(ANSWER, "\n".join(["x" * 100, NOTE.format(1 + 3 + 1), mark, other])), several[-1]], 5))
+        in_a_quote = [Piece(ERROR, "x" * 101 + "\n" + mark + "\nError: no")]
+        self.assertEqual(cut(in_a_quote, 100), ([Piece(ERROR, "\n".join(["x" * 100, NOTE.format(1 + 1 + 9), mark]))], 11))
+        text = "x" * 90 + "\nso [7 bytes more]\n[x bytes more]"
+        self.assertEqual(cut([Piece(ANSWER, text)], 100), ([Piece(ANSWER, "x" * 90 + "\n" + NOTE.format(len(text) - 90))], len(text) - 90))
 
     def test_random_pieces(self) -> None:
         """What is left out and what is shown are all of it."""
@@ -73,6 +87,15 @@ class Woven(Case):
         self.assertEqual(self.run_weave("--check", "--longest", "1000000", self.text).errors, "")
         self.assertEqual(self.weave(whole), woven)
         self.assertEqual(self.run_weave("--test", "--longest", "10", self.text).status, 1)
+
+    def test_an_answer_that_its_adapter_has_cut(self) -> None:
+        """Python's own adapter: both say what they left out, together all that there was, and a next weave finds it again."""
+        front = f"---\nsessions: {{py: [{os.path.join(ROOT, 'adapters/bin/tmhost-python')}]}}\n---\n"
+        woven = self.weave(front + fences([("py", "print('x' * 9_000_000)")]))
+        shown = answers(woven)[0].split("\n")
+        self.assertEqual([len(shown[0]), *shown[1:]], [LONGEST, NOTE.format(8_000_000 - LONGEST), "[1000001 bytes more]"])  # with the end of its line
+        self.assertEqual(self.weave(woven), woven)
+        self.assertIn(": 7,900,000 bytes of its answer are left out", self.run_weave("--check", self.text).errors)
 
     def test_a_long_formula_stands_as_text(self) -> None:
         woven = self.weave(self.front("a") + fences([("a", "latex $x^{" + "1" * 3000 + "}$"), ("a", "latex $y$")]), 0, "--longest", "1000")

@@ -166,7 +166,7 @@ class Troubles(Messages):
         text = self.front("a") + fences([("a", f"file {self.place('long')}")] * 3)
         self.write(text)
         done = self.run_weave(TMHOST=self.place("limited"))
-        self.assertEqual((done.status, done.errors), (1, f"{self.text}: tmhost ended: fault 21 Disk\n"))
+        self.assertEqual((done.status, done.errors), (1, f"{self.text}: {self.sheet}: fault 21 Disk: a write to the disk failed; make room, then do it again: what was reported is kept\n"))
         full = mock.patch("os.statvfs", return_value=mock.Mock(f_bavail=10, f_frsize=4096))
         with mock.patch.dict(os.environ, TMHOST=self.place("limited")), full, self.assertRaises(Trouble) as caught:
             Weave(self.text, None).weave(None)

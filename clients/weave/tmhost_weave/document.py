@@ -6,7 +6,7 @@ from typing import Counter, Dict, FrozenSet, Iterator, List, Optional, Sequence,
 
 from tmhost_fences.blocks import FENCE, LINE, Block, block_of, cut, tokens_of
 from tmhost_fences.fields import Group, groups, language_in, whole
-from tmhost_fences.front import Sessions, front_of, sessions_meant
+from tmhost_fences.front import SESSIONS, Sessions, front_of, sessions_meant, why_misspelt
 from tmhost_fences.info import ATTRIBUTES, LITERAL, OBEYED, is_hidden, is_without_text, wants_errors
 from tmhost_fences.meant import session_meant
 from tmhost_fences.near import near
@@ -116,7 +116,7 @@ class Document:
         front = front_of(contents)
         meant = sessions_meant(contents)
         if meant:
-            raise Trouble(f"the front matter has {ascii(meant)}: is sessions meant?")
+            raise Trouble(why_misspelt(meant, SESSIONS))
         self.sessions = front.sessions
         self.always: FrozenSet[str] = frozenset([WHOLE] if front.is_whole else [])  # flags that each fence has
         self.fences: List[Fence] = []

@@ -5,7 +5,8 @@ import subprocess
 import time
 from typing import Dict, List
 
-from tmhost import Field, InUse, Refused, TmhostError, Worksheet, find_program
+from tmhost import Died, Field, InUse, Refused, TmhostError, Worksheet, find_program
+from tmhost.advice import advised, reason_of_end
 
 from .plan import MARK, Plan, Wanted
 from tmhost_fences.troubles import Trouble
@@ -13,6 +14,7 @@ from tmhost_fences.troubles import Trouble
 SECOND = ".alt"  # of a worksheet's second file
 PATIENCE = 10.0  # seconds for which a worksheet may be in use, since a program whose weave was killed needs a moment to end
 PAUSE = 0.05
+AGAIN = "weave again"  # makes a worksheet again that was removed
 LARGE = 1_000_000  # bytes of a worksheet's file from which on it may be written again
 MOST_DEAD = 4  # times what its fields hold, which a file may have
 NEARLY_FULL = 1_048_576  # bytes
@@ -35,7 +37,8 @@ def make(path: str) -> None:
     if made.returncode != 0 and has_no_space(path):
         raise Trouble(f"no space left for {os.path.basename(path)}: make room and weave again")
     if made.returncode != 0:
-        raise Trouble(f"{path} can't be made: {made.stderr.decode('utf-8', 'backslashreplace').strip()}")
+        said = made.stderr.decode("utf-8", "backslashreplace").strip()
+        raise Trouble(f"{path} can't be made: {reason_of_end(said, made.returncode, path)}")
     # The second file of a new worksheet is empty, so one that is there alone may go.
     os.replace(new + SECOND, path + SECOND)
     os.rename(new, path)
@@ -57,9 +60,9 @@ def opened(path: str) -> Worksheet:
         try:
             sheet = Worksheet(path)
             break
-        except InUse:
-            if time.monotonic() > until:
-                raise Trouble(f"{path} is in use by another program") from None
+        except Died as died:
+            if not isinstance(died, InUse) or time.monotonic() > until:
+                raise Trouble(advised(died, path, AGAIN)) from None
             time.sleep(PAUSE)
     if MARK.name not in sheet.sessions and (sheet.sessions or sheet.fields):
         sheet.close()

@@ -8,6 +8,7 @@ import sys
 from typing import Dict, Iterator, List, Optional, Sequence, Set
 
 from tmhost import Died, Field, Session
+from tmhost.advice import advised
 from tmhost.starting import doubt, never_answers, why_it_ends
 
 from .answers import ANSWER, ERROR, FORMULA, NO_ANSWER, PICTURE, Piece, Shown
@@ -18,7 +19,7 @@ from .files import new_name, put, read
 from .formulas import parts_of
 from .pictures import Pictures
 from .plan import Plan, Wanted
-from .sheets import fit, has_no_space, make, opened, sheet_path, shorten
+from .sheets import AGAIN, fit, has_no_space, make, opened, sheet_path, shorten
 from tmhost_fences.targets import refuse_target
 from tmhost_fences.troubles import Trouble
 
@@ -151,7 +152,7 @@ class Weave:
             raise
         except Died as died:
             if not self.plan or not has_no_space(self.sheet_path):
-                raise
+                raise Trouble(advised(died, self.sheet_path, AGAIN)) from died
             kept, all = self.plan.answered, len(self.plan.wanted)
             are = "is" if kept == 1 else "are"
             raise Trouble(f"no space left for {os.path.basename(self.sheet_path)}; {kept} of {all} answers {are} kept: make room and weave again") from died

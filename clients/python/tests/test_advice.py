@@ -1,0 +1,123 @@
+"""What a person is shown of each fault: its path, what it means and what to do."""
+
+import os
+import re
+import subprocess
+import unittest
+
+from support import PROGRAM, ROOT, WORDS, Case, needs_program
+
+from tmhost import Died, Lost, NoWorksheet, Worksheet
+from tmhost.advice import ADVICE, OF_A_CACHE, UNSEEN, advised, reason_of_end
+
+FAULTS = os.path.join(ROOT, "docs", "use", "FAULTS.md")
+ROW = re.compile(r"^\| (\d+) (\w+)", re.MULTILINE)
+MOST_WORDS = 25
+
+
+class Table(unittest.TestCase):
+    def test_each_fault_of_the_page_has_its_advice(self) -> None:
+        """But 20, which no program reports."""
+        with open(FAULTS, encoding="utf-8") as file:
+            faults = {int(number): name for number, name in ROW.findall(file.read())}
+        self.assertEqual(faults.pop(20), "Closed")
+        self.assertEqual(sorted(ADVICE), [number for number in sorted(faults) if number > 9])
+        for number, name in faults.items():
+            for again in (None, "do it again"):
+                said = advised(Died(name, number, "", 1, 52 if number == 30 else None), "/no/such/sheet", again)
+                self.assertRegex(said, rf"\A/no/such/sheet: fault {number} {name}( at 52)?: [^{{}}]+[a-z)`/A-Z]\Z")
+
+    def test_no_sentence_is_long(self) -> None:
+        for text in (*ADVICE.values(), *OF_A_CACHE.values(), UNSEEN):
+            for part in re.split(r"[;:] ", text):
+                self.assertLessEqual(len(part.split()), MOST_WORDS, part)
+
+    def test_what_is_no_fault(self) -> None:
+        for error, said in (
+            (NoWorksheet("a/b"), "No such file or directory: a/b"), (Died(None, None, "", -9), "tmhost ended by signal 9"),
+            (Died("Later", 99, "", 1), "tmhost ended: fault 99 Later"), (Lost("Ended"), "lost: Ended"), (PermissionError(13, "Permission denied", "x"), "Permission denied: x"),
+        ):
+            self.assertEqual(advised(error, "sheet", "do it again"), said)
+
+    def test_of_what_stands_on_standard_error(self) -> None:
+        self.assertEqual(reason_of_end("fault 34 NotEmpty\n", 1, "x"), f"fault 34 NotEmpty: {ADVICE[34]}")
+        self.assertEqual(reason_of_end("no such task\n", 2, "x"), "tmhost ended with status 2: no such task")
+
+
+@needs_program
+class Real(Case):
+    def setUp(self) -> None:
+        super().setUp()
+        with self.open() as sheet:
+            sheet.session("a", WORDS)
+            sheet.checkpoint()
+        self.second = self.path + ".alt"
+
+    def write(self, path: str, at: int, data: bytes) -> None:
+        with open(path, "r+b") as file:
+            file.seek(at)
+            file.write(data)
+
+    def said(self, again: str = "") -> str:
+        with self.assertRaises(Died) as caught:
+            Worksheet(self.path, program=PROGRAM)
+        return advised(caught.exception, self.path, again or None)
+
+    def test_a_damage(self) -> None:
+        with open(self.path, "rb") as file:
+            active = self.second if file.read(10)[9:] == b"B" else self.path
+        with open(active, "rb") as file:
+            gate = file.read(11).index(b"R")
+        self.write(active, gate + 1, b"\xff")  # the length of the first record
+        start = f"{self.path}: fault 30 Damaged at {gate}: it can't be read from byte {gate} on; "
+        self.assertEqual(self.said(), f"{start}keep both files: `tmhost rescue {self.path} NEW` writes what stands before that to a new worksheet")
+        self.assertEqual(self.said("weave again"), f"{start}remove {self.path} and {self.second} and weave again: the answers in them are lost")
+        rescued = subprocess.run([PROGRAM, "rescue", self.path, self.path + "2"], capture_output=True)
+        self.assertEqual(rescued.returncode, 0, rescued.stderr)
+
+    def test_what_is_no_worksheet(self) -> None:
+        for data in (b"", b"TMWS", b"some text, and more"):
+            with open(self.path, "wb") as file:
+                file.write(data)
+            start = f"{self.path}: fault 31 NotASheet: it is no worksheet, or it was cut or is empty; "
+            self.assertEqual(self.said(), start + "look at the path")
+            self.assertEqual(self.said("weave again"), f"{start}where nobody needs them, remove {self.path} and {self.second} and weave again")
+
+    def test_what_cannot_be_opened(self) -> None:
+        """What is said is what keeps it from being opened, as it opens when that is undone."""
+        kept = self.path + ".kept"
+        start = f"{self.path}: fault 32 Disk: "
+        os.link(self.path, kept)
+        self.assertEqual(self.said("weave again"), start + "it has another name, which is a hard link; `cp` makes a copy of its own")
+        os.unlink(kept)
+        os.rename(self.path, kept)
+        os.mkdir(self.path)
+        self.assertEqual(self.said("weave again"), start + "it is a folder; take another path")
+        os.rmdir(self.path)
+        os.rename(kept, self.path)
+        os.rename(self.second, kept)
+        self.assertEqual(self.said(), f"{start}the worksheet lies in {self.second}, which isn't there; put that file back")
+        os.symlink(kept, self.second)
+        self.assertEqual(self.said(), f"{start}{self.second} is a link; put the file itself there")
+        os.unlink(self.second)
+        os.rename(kept, self.second)
+        self.open().close()
+
+    def test_one_in_use(self) -> None:
+        with self.open():
+            self.assertEqual(self.said("weave again"), f"{self.path}: fault 35 InUse: it is in use by another program; `fuser {self.path}` says which: wait for its end, or end it")
+
+    def test_the_second_file(self) -> None:
+        with self.assertRaises(Died) as caught:
+            Worksheet(self.second, program=PROGRAM)
+        self.assertEqual(advised(caught.exception, self.second), f"{self.second}: fault 38 SecondFile: this is the second file of a worksheet; give the path without .alt")
+
+    def test_a_folder_that_is_not_there(self) -> None:
+        path = os.path.join(self.folder, "none", "sheet")
+        made = subprocess.run([PROGRAM, "create", path], capture_output=True)
+        said = reason_of_end(made.stderr.decode(), made.returncode, path)
+        self.assertEqual(said, f"fault 32 Disk: there is no folder {os.path.dirname(path)}; make it, or take another path")
+
+
+if __name__ == "__main__":
+    unittest.main()

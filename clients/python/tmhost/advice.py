@@ -1,0 +1,105 @@
+"""What a person is shown of an error of a worksheet: of a fault its path, what it means and what to do, in a line. docs/use/FAULTS.md has it whole."""
+
+import os
+from typing import Dict, Iterator, Optional
+
+from .errors import DISK, Died, NoWorksheet, plain
+from .program import death, fault_in
+
+SECOND = ".alt"  # of a worksheet's second file
+DAMAGED, NOT_A_SHEET = 30, 31
+IN_SECOND = (9, b"B")  # the place of a byte, and what it is where the worksheet lies in the second file
+
+# By the number of a fault. {path} is the worksheet, {at} the place of a damage, {cause} why it can't be opened.
+ADVICE: Dict[int, str] = {
+    21: "a write to the disk failed; make room, then do it again: what was reported is kept",
+    22: "there wasn't memory enough for what an interpreter wrote; what was reported is kept",
+    23: "its file is full; the line checkpoint of a script makes it shorter, else begin a new worksheet",
+    DAMAGED: "it can't be read from byte {at} on; keep both files: `tmhost rescue {path} NEW` writes what stands before that to a new worksheet",
+    NOT_A_SHEET: "it is no worksheet, or it was cut or is empty; look at the path",
+    DISK: "{cause}",
+    33: "there wasn't memory enough to open it; nothing was changed: do it again with more",
+    34: "a file is there already, by this name or with .alt after it; nothing was made: take another path",
+    35: "it is in use by another program; `fuser {path}` says which: wait for its end, or end it",
+    36: "a session has a word with a space, so no script makes it; `tmhost export html {path}` shows it",
+    37: "it has no field with this number; `tmhost show {path}` has the numbers",
+    38: "this is the second file of a worksheet; give the path without .alt",
+    39: "it has fewer changes; `tmhost history {path}` has the numbers",
+    40: "the input of tmhost is closed or can't be read; do it again: what was reported is kept",
+    41: "the input of tmhost is too long; cut it into parts",
+    42: "the output of tmhost is closed or can't be written; `tmhost show {path}` says where it stands",
+    43: "there wasn't memory enough; what was reported is kept: do the rest again with more",
+    44: "the program of a session isn't here; install it, or put its folder into PATH",
+}
+# The same, of one that can be made again: by {again}.
+OF_A_CACHE: Dict[int, str] = {
+    DAMAGED: "it can't be read from byte {at} on; remove {path} and {path}.alt and {again}: the answers in them are lost",
+    NOT_A_SHEET: "it is no worksheet, or it was cut or is empty; where nobody needs them, remove {path} and {path}.alt and {again}",
+}
+UNSEEN = "it can't be opened, read or written; look at the path, at who may write there, and for room on the disk"
+
+
+def advised(error: BaseException, path: str, again: Optional[str] = None) -> str:
+    """What a user is shown of an error of the worksheet at this path. Of one that is a cache `again` says how it is made again, as "weave again"."""
+    return f"{path}: {reason(error, path, again)}" if has_advice(error) else plain(error)
+
+
+def reason(error: BaseException, path: str, again: Optional[str] = None) -> str:
+    """The same without the path in front, where that was named."""
+    if not isinstance(error, Died) or not has_advice(error):
+        return plain(error)
+    at = "" if error.offset is None else f" at {error.offset}"
+    advice = {**ADVICE, **(OF_A_CACHE if again else {})}[error.number or 0]
+    cause = cause_of(path) if error.number == DISK else None
+    return f"fault {error.number} {error.fault}{at}: " + advice.format(path=path, at=error.offset, again=again, cause=cause or UNSEEN)
+
+
+def has_advice(error: BaseException) -> bool:
+    return isinstance(error, Died) and not isinstance(error, NoWorksheet) and error.number in ADVICE
+
+
+def reason_of_end(said: str, status: int, path: str) -> str:
+    """Why a program has ended, by what stands on its standard error, of a worksheet whose path was named."""
+    return reason(death(fault_in(said), said, status, None), path)
+
+
+def cause_of(path: str) -> Optional[str]:
+    """Why a worksheet can't be opened, as far as that can be seen."""
+    try:
+        return next(causes(path), None)
+    except OSError as error:
+        return plain(error)
+
+
+def causes(path: str) -> Iterator[str]:
+    second, folder = path + SECOND, os.path.dirname(path) or "."
+    if not os.path.lexists(path):
+        yield from causes_of_folder(folder)
+        return
+    if os.path.islink(path) and not os.path.exists(path):
+        yield "it is a link that leads nowhere; remove it, or put back what it leads to"
+    elif not os.path.isfile(path):
+        yield "it is a folder; take another path" if os.path.isdir(path) else "it is no plain file; take another path"
+    for name, it in ((path, "it"), (second, second)):
+        if os.path.exists(name) and not os.access(name, os.R_OK | os.W_OK):
+            yield f"you may not read and write {it}; `ls -l` says who may"
+    if os.stat(path).st_nlink > 1:
+        yield "it has another name, which is a hard link; `cp` makes a copy of its own"
+    if os.path.islink(second):
+        yield f"{second} is a link; put the file itself there"
+    if not os.path.exists(second) and is_in_second(path):
+        yield f"the worksheet lies in {second}, which isn't there; put that file back"
+
+
+def causes_of_folder(folder: str) -> Iterator[str]:
+    """Why nothing can be made in a folder."""
+    if not os.path.isdir(folder):
+        yield f"there is no folder {folder}; make it, or take another path"
+    elif not os.access(folder, os.W_OK | os.X_OK):
+        yield f"you may not write into {folder}; take another path"
+
+
+def is_in_second(path: str) -> bool:
+    at, byte = IN_SECOND
+    with open(path, "rb") as file:
+        return file.read(at + 1)[at:] == byte
