@@ -264,6 +264,10 @@ module _ {Y D P S I W E Q : Type 0} (o : OutsideView D P S I W E) where
   abbrev pub DoesLive : Voice → Outside Y D P S I W E Q → Outside Y D P S I W E Q → Ending → Text → Type 0
   DoesLive V old new ending path = LivesAs as_it_comes V old new ending path
 
+  -- `live --json --partial`: the sources begin to write out what is no answer yet, and then it is `live --json`
+  abbrev pub LivesPartial : Outside Y D P S I W E Q → Outside Y D P S I W E Q → Ending → Text → Type 0
+  LivesPartial old new ending path = (begun : S) × o.begins old.sources begun × DoesLive in_json (record old { sources = begun }) new ending path
+
   -- where the words of `run` ask for nothing that there is they are refused with this text, and nothing is done
   abbrev pub RunsNothing : List ℕ → Outside Y D P S I W E Q → Outside Y D P S I W E Q → Ending → Type 0
   RunsNothing text old new ending = (new.places ≡ old.places) × (new.sources ≡ old.sources) × (new.input ≡ old.input) × (new.output ≡ old.output)
