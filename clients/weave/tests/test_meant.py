@@ -37,6 +37,23 @@ class Meant(Case):
     def sessions(self) -> str:
         return self.front("a", py=["tmhost-python"])
 
+    def test_a_plain_fence_of_an_rmd(self) -> None:
+        """As the page's table "From knitr" says: a session's name counts, and no ending of the file."""
+        for name in ("text.Rmd", "text.md"):
+            self.text, self.sheet = self.place(name), self.place("text.sheet")
+            given = fences([("python", "x"), ("{python}", "y"), ("python {literal}", "z")])
+            status, said, woven = self.said(self.front("python") + given)
+            self.assertEqual((status, said, self.logged("python")), (0, ["python: 2 evaluated"], ["x", "y"]), name)
+            self.assertIn("```python\nx\n```\n\n```tmhost-answer\n", woven)
+            os.unlink(self.sheet)
+            given = self.sessions() + fences([("a", "x"), ("python", "x")])
+            line = given.split("\n").index("```python") + 1
+            status, said, woven = self.said(given)
+            self.assertEqual((status, said[0], len(answers(woven))), (1, f"line {line}: {NONE.format('python', 'py', 'python {literal}')}", 1))
+            os.unlink(self.sheet)
+            self.assertEqual(self.said(self.front("a") + fences([("a", "x"), ("python", "x")]))[:2], (0, ["a: 1 evaluated"]))
+            os.unlink(self.sheet)
+
     def test_fences_near_to_sessions(self) -> None:
         """With --check and --test, too. What says that it is text is text, and so is another language."""
         blocks = [("a", "x"), ("python", "1"), ("pyhton {hide}", "2"), ("{.Python}", "3"), ("{python plot, echo=FALSE}", "4"), ("aa", "5"), ("a1a", "y")]
