@@ -2,9 +2,10 @@
 import os
 from typing import Dict, List, Optional
 
+from tmhost.near import near
+
 from .fields import language_in
 from .front import Sessions
-from .near import near
 
 COMMAND, BY_KERNEL = "tmhost-", "tmhost-jupyter"
 # Other names that fences have for the languages of adapters, in lower case.

@@ -37,6 +37,12 @@ class Meant(Case):
     def sessions(self) -> str:
         return self.front("a", py=["tmhost-python"])
 
+    def test_a_misspelt_program(self) -> None:
+        status, said, _ = self.said(self.front(gp=["tmhost-pg"]) + fences([("gp", "x")]))
+        self.assertEqual((status, said[0]), (1, "gp: there is no program tmhost-pg: is tmhost-gp meant?"))
+        status, said, woven = self.said(self.front(gp=["gp -q"]) + fences([("gp", "x")]))
+        self.assertEqual((status, said), (1, ["the session gp has a word with a space, 'gp -q': write [gp, -q]"]))
+
     def test_a_plain_fence_of_an_rmd(self) -> None:
         """As the page's table "From knitr" says: a session's name counts, and no ending of the file."""
         for name in ("text.Rmd", "text.md"):
