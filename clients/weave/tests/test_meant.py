@@ -19,8 +19,8 @@ class Sessions(unittest.TestCase):
         }
         for name, meant in (
             ("python", "py"), ("Python", "py"), ("python3", "py"), ("ipython", "py"), ("pyhton", "py"), ("pythn", "py"), ("PY", "py"), ("R", "r"), ("sh", "shell"),
-            ("bash", "shell"), ("javascript", "js"), ("julia", "ju"), ("jula", "ju"), ("gpp", "gp"), ("maxma", "maxima"), ("shll", "shell"),
-            ("json", None), ("text", None), ("c", None), ("go", None), ("", None), ("sage", None), ("jsx", None), ("latex", None), ("tmhost-answer", None),
+            ("bash", "shell"), ("tmhost-gp", "gp"), ("tmhost-pg", "gp"), ("tmhost-pyhton", "py"), ("tmhost-bash", "shell"), ("javascript", "js"), ("julia", "ju"), ("jula", "ju"), ("gpp", "gp"), ("maxma", "maxima"), ("shll", "shell"),
+            ("json", None), ("text", None), ("c", None), ("go", None), ("", None), ("sage", None), ("jsx", None), ("latex", None), ("tmhost-answer", None), ("tmhost-error", None), ("tmhost-no-answer", None), ("tmhost-lua", None), ("tmhost-mine", None),
         ):
             self.assertEqual(session_meant(name, sessions), meant, name)
         for name in ("python", "json", "sh", "text", "mine", "test"):
