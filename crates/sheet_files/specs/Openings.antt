@@ -12,6 +12,6 @@ NotBegun began first second = (error : Error) × (began first (Err error) ⊎ Is
 
 -- The place gave the files that the disk has, or the fault and no files. Or it gave files as they are, of which one didn't begin. Nothing was done
 -- at the place after that.
-abbrev pub HasGiven : {F N T D : Type 0} → (D → Pair F) → (Result (Pair F) T → N → Type 0) → (F → Result ℕ Error → Type 0) → Result D T → N → Type 0
-HasGiven files gave began (Ok disk) new = gave (Ok (files disk)) new
-HasGiven files gave began (Err why) new = gave (Err why) new ⊎ ((pair : Pair _) × gave (Ok pair) new × NotBegun began pair.first pair.second)
+abbrev pub PairGiven : {F N T D : Type 0} → (D → Pair F) → (Result (Pair F) T → N → Type 0) → (F → Result ℕ Error → Type 0) → Result D T → N → Type 0
+PairGiven files gave began (Ok disk) new = gave (Ok (files disk)) new
+PairGiven files gave began (Err why) new = gave (Err why) new ⊎ ((pair : Pair _) × gave (Ok pair) new × NotBegun began pair.first pair.second)

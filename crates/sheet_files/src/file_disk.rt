@@ -79,7 +79,7 @@ fn sync_failed() -> io::Error {
 }
 
 impl<F: DiskFile + Drop> FileDisk<F> {
-    ghost use Rattle.sheet_files.specs.Openings.{HasGiven, NotBegun, pair_of};
+    ghost use Rattle.sheet_files.specs.Openings.{PairGiven, NotBegun, pair_of};
 
     /// Makes both files, empty, first the one at `path`, which is locked before the other is made.
     /// They and their names are durable once it answers. `NotEmpty` where either exists, a folder and a
@@ -92,7 +92,7 @@ impl<F: DiskFile + Drop> FileDisk<F> {
         alloc: Global,
         path: &str,
     ) -> Result<FileDisk<F>, MakeFault>
-        ensures made { HasGiven (λ disk. pair_of disk.first disk.second)
+        ensures made { PairGiven (λ disk. pair_of disk.first disk.second)
             (N.makes_pair names.old path.now) F.began result names.new }
         ensures lock { IfOk result (λ disk. disk.lock ≡ Exclusive) }
     {
@@ -114,7 +114,7 @@ impl<F: DiskFile + Drop> FileDisk<F> {
         alloc: Global,
         path: &str,
     ) -> Result<FileDisk<F>, FilesFault>
-        ensures opened { HasGiven (λ disk. pair_of disk.first disk.second)
+        ensures opened { PairGiven (λ disk. pair_of disk.first disk.second)
             (N.opens_pair names.old path.now) F.began result names.new }
         ensures lock { IfOk result (λ disk. disk.lock ≡ Exclusive) }
     {
@@ -130,7 +130,7 @@ impl<F: DiskFile + Drop> FileDisk<F> {
         alloc: Global,
         path: &str,
     ) -> Result<FileDisk<F>, FilesFault>
-        ensures opened { HasGiven (λ disk. pair_of disk.first disk.second)
+        ensures opened { PairGiven (λ disk. pair_of disk.first disk.second)
             (N.reads_pair names.old path.now) F.began result names.new }
         ensures lock { IfOk result (λ disk. disk.lock ≡ Shared) }
     {

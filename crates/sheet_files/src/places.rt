@@ -60,15 +60,15 @@ impl<N: Drop> FilePlaces<N> {
 }
 
 impl<F: DiskFile + Drop, N: Openings<F> + Drop> Places<FileDisk<F>> for FilePlaces<N> {
-    ghost use Rattle.sheet_files.specs.Openings.{HasGiven, pair_of};
+    ghost use Rattle.sheet_files.specs.Openings.{PairGiven, pair_of};
 
     ghost holds = { λ old result new. N.holds old.names result new.names };
 
-    ghost creates = { λ old path result new. HasGiven (λ disk. pair_of disk.first disk.second) (N.makes_pair old.names path) F.began result new.names };
+    ghost creates = { λ old path result new. PairGiven (λ disk. pair_of disk.first disk.second) (N.makes_pair old.names path) F.began result new.names };
 
-    ghost opens = { λ old path result new. HasGiven (λ disk. pair_of disk.first disk.second) (N.opens_pair old.names path) F.began result new.names };
+    ghost opens = { λ old path result new. PairGiven (λ disk. pair_of disk.first disk.second) (N.opens_pair old.names path) F.began result new.names };
 
-    ghost reads = { λ old path result new. HasGiven (λ disk. pair_of disk.first disk.second) (N.reads_pair old.names path) F.began result new.names };
+    ghost reads = { λ old path result new. PairGiven (λ disk. pair_of disk.first disk.second) (N.reads_pair old.names path) F.began result new.names };
 
     ghost finds = { λ places name is_there. N.finds places.names name is_there };
 
