@@ -20,6 +20,7 @@ class Marks:
     is_setup: bool = False
     is_teardown: bool = False
     is_whole: bool = False
+    is_independent: bool = False  # it needs no case before it but those that set up, and none after it needs it
     xfail: Optional[str] = None
     may_fail: Optional[str] = None
     skip: Optional[str] = None
@@ -72,11 +73,15 @@ class Suite:
     left_out: Tuple[str, ...] = ()  # what such a suite has besides, which its text form doesn't get, in words
     doubts: Tuple[str, ...] = ()  # what may not be meant as it stands
     folder: Optional[str] = None  # in which its interpreters are started; None: where tmhost-suite was
+    has_independent_cases: bool = False  # it says so of all its cases
 
     @property
     def count(self) -> int:
         """How many cases it has that are counted."""
         return sum(not case.is_own for case in self.cases)
+
+    def is_independent(self, case: Case) -> bool:
+        return self.has_independent_cases or case.marks.is_independent
 
     def rules_of(self, case: Case) -> Rules:
         own = case.marks

@@ -176,6 +176,7 @@ class Runner:
         self.sheets: List[Worksheet] = []  # those of suites that have begun
         self.accepted: List[str] = []  # what is said of texts that were changed
         self.ran: List[Ran] = []
+        self.replayed: List[int] = []  # of each suite how many cases were evaluated only for those after them
         self.chosen = 0  # how many cases were to be run
         self.troubles: List[reports.Trouble] = []  # why suites weren't run to their end; the others are
         self.seed = str(random.randrange(10**6)) if given.random == "new" else given.random
@@ -287,7 +288,7 @@ class Runner:
         with kept.sheet:
             self.sheets.append(kept.sheet)
             plan = Plan(chosen, self.given.seconds, self.slots, self.ended, self.is_broken_off, self.given.fail_fast, self.seed)
-            run(kept, plan, lambda at: self.teller.one_more())
+            self.replayed.append(run(kept, plan, lambda at: self.teller.one_more()))
         reported = reported_of(suite, kept.results, chosen)
         broken = list(reports.broken_in(suite, kept.results))
         self.troubles += broken
@@ -350,7 +351,7 @@ class Runner:
             self.teller.tell_slowest(reported, self.given.slowest)
         self.teller.tell_unstarted_sessions(reported)
         self.teller.tell_idle_rules(reported)
-        self.teller.tell_counts(reported, taken)
+        self.teller.tell_counts(reported, sum(self.replayed), taken)
         for line in self.accepted:
             self.teller.say(line)
 

@@ -10,6 +10,7 @@ from typing import Callable, List, Optional
 
 from tmhost import Answer, Cell, Lost, Refused, TimedOut
 
+from .agenda import agenda_of, is_fixed
 from .cases import Case, Suite
 from .kept import BROKEN, WRONG, Kept, Result, joined
 from .shown import Shown, shown_of
@@ -84,6 +85,7 @@ class Chain:
         self.suite = kept.suite
         self.is_fresh = True  # its interpreter isn't started, or starts empty
         self.has_run = False
+        self.replayed = 0  # how many cases were evaluated only for those after them
         self.broken = ""  # why its interpreter hasn't what the tool sets up for its cases
 
     @property
@@ -91,39 +93,36 @@ class Chain:
         """The places of its cases. Where they are shuffled, what sets up comes first and what takes down last, as they stand."""
         places = self.suite.of(self.session)
         if self.plan.seed is not None:
-            free = [at for at in places if not self._is_fixed(at)]
+            free = [at for at in places if not is_fixed(self.suite.cases[at])]
             mixed = iter(random.Random(f"{self.plan.seed} {self.session}").sample(free, len(free)))
-            fixed = [at for at in places if self._is_fixed(at)]
+            fixed = [at for at in places if is_fixed(self.suite.cases[at])]
             first = [at for at in fixed if self.suite.cases[at].marks.is_setup]
             places = first + list(mixed) + [at for at in fixed if at not in first]
         return places
-
-    def _is_fixed(self, at: int) -> bool:
-        marks = self.suite.cases[at].marks
-        return marks.is_setup or marks.is_teardown
 
     def _is_broken(self, own: List[int]) -> bool:
         """Whether what the tool sets up, at these places, went wrong."""
         return any(at in self.kept.results and self.kept.results[at].verdict == BROKEN for at in own)
 
     def run(self) -> None:
-        order = self.order
-        done = [at for at in order if at in self.kept.results]
-        own = [at for at in order if self.suite.cases[at].is_own and self.suite.cases[at].marks.is_setup]
-        for at in order:
+        agenda = agenda_of(self.suite, self.order, self.kept.results, self.plan.chosen)
+        own = [at for at in self.order if self.suite.cases[at].is_own and self.suite.cases[at].marks.is_setup]
+        past = agenda.past
+        for at, is_judged in agenda.steps:
             case = self.suite.cases[at]
-            if at in self.kept.results or case.marks.skip is not None or not (self.plan.chosen(at, case) or self._is_fixed(at)):
-                continue
             if self._is_broken(own) and not case.marks.is_teardown:
                 continue  # it would be evaluated elsewhere than in what the program of its form makes for it
             with self.plan.slots:
                 if self.plan.ended.is_set():
                     return
-                if done:
-                    self._replay_done(done)
-                    done = []
-                self._judge(at, case)
-            if not case.is_own:
+                if past:
+                    self._replay_past(past, agenda.needed)
+                    past = []
+                if is_judged:
+                    self._judge(at, case)
+                else:
+                    self._replay_case(at)
+            if is_judged and not case.is_own:
                 self.tell(at)
 
     def _judge(self, at: int, case: Case) -> None:
@@ -208,14 +207,21 @@ class Chain:
             self._replay([one for one in places[: places.index(at)] if self.suite.cases[one].marks.is_setup])
         self.is_fresh, self.has_run = False, True
 
-    def _replay_done(self, done: List[int]) -> None:
+    def _replay_past(self, past: List[int], needed: List[int]) -> None:
         """Brings a new interpreter to where that of the run that was broken off stood: what set up before the last case in which an
-        interpreter ended, and all after that."""
-        cut = max((place for place, at in enumerate(done) if self._was_lost(at)), default=-1)
-        before = [at for at in done[: cut + 1] if self.suite.cases[at].marks.is_setup]
-        self.has_run, self.is_fresh = True, cut + 1 == len(done)
-        if not self.is_fresh:
-            self._replay(before + done[cut + 1 :])
+        interpreter ended, and all after that; of both what is needed."""
+        cut = max((place for place, at in enumerate(past) if self._was_lost(at)), default=-1)
+        self.has_run, self.is_fresh = True, cut + 1 == len(past)
+        after = frozenset(past[cut + 1 :])
+        for at in needed if after else []:
+            if self.suite.cases[at].marks.is_setup or at in after:
+                self._replay_case(at)
+
+    def _replay_case(self, at: int) -> None:
+        """Evaluates a case only for those after it."""
+        self._begin_life(at)
+        self._replay([at])
+        self.replayed += not self.suite.cases[at].is_own
 
     def _was_lost(self, at: int) -> bool:
         return any(cell.state != "answered" for cell in self.kept.cells[at])
@@ -246,10 +252,11 @@ class Chain:
             self.broken = shown.text
 
 
-def run(kept: Kept, plan: Plan, tell: Callable[[int], None]) -> None:
-    """Runs all cases that aren't done, each session in a thread of its own."""
+def run(kept: Kept, plan: Plan, tell: Callable[[int], None]) -> int:
+    """Runs all cases that aren't done, each session in a thread of its own. Says how many were evaluated only for those after them."""
     judge_again(kept)
     chains = [Chain(kept, name, plan, tell) for name in kept.suite.sessions]
     with ThreadPoolExecutor(len(chains)) as pool:
         for done in [pool.submit(chain.run) for chain in chains]:
             done.result()
+    return sum(chain.replayed for chain in chains)

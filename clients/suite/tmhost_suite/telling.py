@@ -127,13 +127,13 @@ class Teller:
             for line in shortened(normalised.split("\n")):
                 self.say("  " + printable(line))
 
-    def tell_counts(self, all_reported: List[Reported], seconds: float) -> None:
+    def tell_counts(self, all_reported: List[Reported], replayed: int, seconds: float) -> None:
         counts: Dict[str, int] = {}
         for reported in all_reported:
             counts[reported.verdict] = counts.get(reported.verdict, 0) + 1
         parts = [f"{counts[verdict]} {verdict}" for verdict in ORDER if counts.get(verdict)]
         left_out = counts.get("out", 0)
-        more = f", {left_out} left out" if left_out else ""
+        more = (f", {left_out} left out" if left_out else "") + (f", {replayed} replayed" if replayed else "")
         self.say(f"{', '.join(parts) or 'no cases'}{more} in {seconds:.1f} s")
 
 
