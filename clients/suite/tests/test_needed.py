@@ -1,5 +1,4 @@
 """What a case needs is evaluated before it, whatever is chosen: the earlier cases of its session, which are neither compared nor reported."""
-import os
 import random
 
 from .support import Case, case, without_seconds
@@ -12,8 +11,7 @@ class Base(Case):
     def forget(self) -> None:
         """What the interpreters got until now."""
         for name in "ab":
-            if os.path.exists(self.place(name + ".log")):
-                os.unlink(self.place(name + ".log"))
+            self.remove_file(name + ".log")
 
     def last_line(self) -> str:
         return without_seconds(self.outcome.output).splitlines()[-1]
@@ -93,4 +91,4 @@ class Independent(Base):
             self.assertEqual(self.log("a"), ["say s", *log, f"until {self.place('go')}", "say 6"])
             self.assertEqual(self.last_line(), f"2 ok, 5 new, {len(log) + 1} replayed")
             for name in ("go", "suite.md.run", "suite.md.run.alt", "a.log"):
-                os.unlink(self.place(name))
+                self.remove_file(name)

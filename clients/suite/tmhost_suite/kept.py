@@ -41,7 +41,8 @@ BROKEN = "broken"
 class Result:
     """What came of a case. `got` is what is compared, and `errors` are those that are apart; `tries` is how often it was evaluated; `began_anew` says that its interpreter was
     started for it, other than for the first case of its session; `is_error` that an answer is an error, or has one; `is_lost` that a field has no
-    answer; `has_started` that its interpreter came so far that it could have given one. These names are those in the notes of a run, which may be one of an earlier version that was broken off: so they stay."""
+    answer; `has_started` that its interpreter came so far that it could have given one; `after_end` is the place of the case that ended the interpreter of
+    its session before, with which went what it may need. These names are those in the notes of a run, which may be one of an earlier version that was broken off: so they stay."""
 
     got: str
     seconds: float
@@ -52,6 +53,11 @@ class Result:
     errors: str = ""
     verdict: str = ""
     has_started: bool = True
+    after_end: Optional[int] = None
+
+
+# The names that notes didn't have at first, with what they are mostly.
+LATER: Dict[str, object] = {"has_started": True, "after_end": None}
 
 
 class Starts:
@@ -111,8 +117,8 @@ class Kept:
                 for part in parts:
                     self.sheet.new(NOTES, json.dumps({"case": at, "of": name, "part": part}, ensure_ascii=True))
                 short[name] = len(parts)
-        if result.has_started:
-            del short["has_started"]  # so that an earlier version can go on, too
+        # So that an earlier version can go on, too.
+        short = {name: value for name, value in short.items() if name not in LATER or value != LATER[name]}
         self.sheet.new(NOTES, json.dumps({"case": at, "digest": self.suite.cases[at].digest, **short}, ensure_ascii=True))
 
     def shown(self, at: int) -> Shown:

@@ -14,17 +14,16 @@ from typing import Callable, Dict, Iterator, List, NamedTuple, Optional, Tuple
 from tmhost import Died, TmhostError, Worksheet
 from tmhost.program import show_building
 from tmhost.version import ShowVersion
-from tmhost_weave.files import put
 from tmhost_fences.targets import refuse_target
 from tmhost_fences.troubles import Trouble
 
 from . import kept as worksheets
 from . import reports
+from .accepting import accept
 from .cases import Case, Suite
 from .kept import PASSED
 from .marks import seconds
 from .reports import FORMATS, Reported, reported_of
-from .rules import as_wanted
 from .running import Plan, run
 from .telling import Teller, cut, standard
 from .readers import as_text, read_other
@@ -299,35 +298,10 @@ class Runner:
             self.ran.append(Ran(suite.path, path, worksheets.trace_of(path), is_ok))
         if self.given.accept:
             with self._reported_of(suite.path):
-                self._accept(text, reported)
+                self.accepted += accept(text, reported, self._is_wanted if self.given.interactive else None)
         return reported
 
     # ---- what is accepted
-
-    def _accept(self, text: Optional[Text], reported: List[Reported]) -> None:
-        if text is None:
-            raise Trouble("nothing is accepted into a file of this form: --convert writes the text form")
-        answers: Dict[int, str] = {}
-        errors: Dict[int, str] = {}
-        wrong = [at for at, one in enumerate(reported) if one.verdict in ("differs", "new")]
-        lost = [] if self.given.interactive else [at for at in wrong if reported[at].is_lost]
-        if lost:
-            self.accepted.append(f"{text.suite.path}: {len(lost)} not accepted, since no answer came to a field")
-        accepted = [at for at in wrong if (self._is_wanted(reported[at]) if self.given.interactive else at not in lost)]
-        for at in accepted:
-            case, rules = reported[at].case, text.suite.rules_of(reported[at].case)
-            if not rules.is_wanted(case.wanted, reported[at].got, set()):
-                answers[at] = "\n".join(as_wanted(reported[at].got))
-            if rules.apart and not rules.is_wanted(case.errors, reported[at].errors, set()):
-                errors[at] = "\n".join(as_wanted(reported[at].errors))
-        if not accepted:
-            return
-        new = text.checked(answers, errors)
-        with open(text.suite.path, "rb") as file:
-            if file.read() != "".join(text.lines).encode("utf-8"):
-                raise Trouble("the text was changed while it was run: nothing is accepted")
-        put(os.path.realpath(text.suite.path), new.encode("utf-8"))
-        self.accepted.append(f"{text.suite.path}: {len(accepted)} accepted")
 
     def _is_wanted(self, reported: Reported) -> bool:
         self.teller.end_progress()

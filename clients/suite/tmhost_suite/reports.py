@@ -54,6 +54,16 @@ class Reported:
         return not self.result or self.result.has_started
 
     @property
+    def began_anew(self) -> bool:
+        return bool(self.result and self.result.began_anew)
+
+    @property
+    def ended_before(self) -> Optional[int]:
+        """The line of the case that ended the interpreter of its session before, with which went what it may need. None where all is there."""
+        at = self.result.after_end if self.result else None
+        return None if at is None else self.suite.cases[at].line
+
+    @property
     def lost_as(self) -> str:
         """In a word or two why no answer came to a field of it, as `ended` or `over 5 s`; empty where all came."""
         last = self.got.rpartition("\n")[2] if self.is_lost else ""
@@ -79,8 +89,9 @@ class Reported:
         parts = [marks.skip or "", marks.xfail or "", (marks.may_fail or "") if self.verdict == "xfail" else "", self.got.split("\n")[0] if was_skipped else ""]
         if self.result and self.result.tries > 1:
             parts.append(f"tried {self.result.tries} times")
-        if self.result and self.result.began_anew:
-            parts.append("in an interpreter that was started again")
+        if self.began_anew or self.ended_before is not None:
+            after = "" if self.ended_before is None else f" after line {self.ended_before}"
+            parts.append(f"in an interpreter that was started again{after}")
         if self.is_wrong and not self.has_started:
             parts.append("its interpreter didn't start")
         if self.verdict == "differs":
@@ -253,7 +264,8 @@ def json_lines(all_reported: List[Reported], troubles: List[Trouble]) -> Iterato
             "isError": reported.is_error,
             "seconds": round(reported.seconds, 6),
             "tries": reported.result.tries if reported.result else 0,
-            "startedAgain": bool(reported.result and reported.result.began_anew),
+            "startedAgain": reported.began_anew,
+            "endedBefore": reported.ended_before,
         }
         yield json.dumps(one, ensure_ascii=True)
     for trouble in troubles:

@@ -85,6 +85,7 @@ class Chain:
         self.suite = kept.suite
         self.is_fresh = True  # its interpreter isn't started, or starts empty
         self.has_run = False
+        self.ended_at: Optional[int] = None  # the last case in which an interpreter of the session ended
         self.replayed = 0  # how many cases were evaluated only for those after them
         self.broken = ""  # why its interpreter hasn't what the tool sets up for its cases
 
@@ -129,7 +130,10 @@ class Chain:
         tries, good, result = 0, False, Result("", 0.0)
         while not good and tries <= case.marks.flaky and not self.plan.is_broken_off.is_set():
             tries += 1
+            ended_at = self.ended_at
             result = self._evaluate(at, case)
+            result.after_end = None if self.suite.is_independent(case) else ended_at
+            self._heed_end(at)
             good = is_good(self.suite, case, result)
         if self.plan.is_broken_off.is_set():
             return
@@ -139,6 +143,10 @@ class Chain:
         self.kept.results[at] = result
         if self.plan.fails_fast and result.verdict in (*WRONG, BROKEN):
             self.plan.ended.set()
+
+    def _heed_end(self, at: int) -> None:
+        if self.is_fresh:
+            self.ended_at = at
 
     # ---- one case
 
@@ -211,7 +219,7 @@ class Chain:
         """Brings a new interpreter to where that of the run that was broken off stood: what set up before the last case in which an
         interpreter ended, and all after that; of both what is needed."""
         cut = max((place for place, at in enumerate(past) if self._was_lost(at)), default=-1)
-        self.has_run, self.is_fresh = True, cut + 1 == len(past)
+        self.has_run, self.is_fresh, self.ended_at = True, cut + 1 == len(past), past[cut] if cut >= 0 else None
         after = frozenset(past[cut + 1 :])
         for at in needed if after else []:
             if self.suite.cases[at].marks.is_setup or at in after:
@@ -221,6 +229,7 @@ class Chain:
         """Evaluates a case only for those after it."""
         self._begin_life(at)
         self._replay([at])
+        self._heed_end(at)
         self.replayed += not self.suite.cases[at].is_own
 
     def _was_lost(self, at: int) -> bool:
