@@ -1,5 +1,15 @@
-"""What came of a case after an interpreter of its session had ended: it is marked to the end of the session, and not accepted."""
-from .support import Case, case
+"""An interpreter that ends in a case: that is a verdict of its own, with what it had written. What comes after it is marked to the end of its session,
+and not accepted."""
+import xml.etree.ElementTree
+from typing import List, Tuple
+
+from .support import Case, case, without_seconds
+
+# It has written, on both its outputs, what is no answer any more.
+WRITES = """import os, sys
+print("half of it", flush=True)
+print("last words", file=sys.stderr, flush=True)
+"""
 
 
 class After(Case):
@@ -7,7 +17,7 @@ class After(Case):
         super().setUp()
         self.write(case("x1"), case("die", "? Ended"), case("say 2", "2"), case("x3", "other"), case("x4"), case("x5", "other", "a {independent}"), case("y", None, "b"))
 
-    def marks(self, *more: str) -> "list[tuple[str, str, object]]":
+    def marks(self, *more: str) -> List[Tuple[str, str, object]]:
         return [(one["verdict"], one["remark"], one["endedBefore"]) for one in self.objects(self.path, *more)]
 
     def test_each_later_case_is_marked(self) -> None:
@@ -45,3 +55,41 @@ class After(Case):
             self.remove_file(name)
         self.cut_off(2)
         self.assertEqual([one[2] for one in self.marks("--resume")], [None, None, None, 13])
+
+
+class Ends(Case):
+    def setUp(self) -> None:
+        super().setUp()
+        self.ends = [("os.kill(os.getpid(), 11)", None), ("os._exit(5)", "6"), ("os._exit(0)", "? Ended"), ("os._exit(4)", "6")]
+        infos = ["py {whole}"] * 3 + ["py {whole} {xfail known}"]
+        self.write(*(case(WRITES + code, wanted, info) for (code, wanted), info in zip(self.ends, infos)))
+        with open(self.path, encoding="utf-8") as file:
+            text = file.read()
+        with open(self.path, "w", encoding="utf-8") as file:
+            file.write(text.replace("sessions:\n", "sessions:\n  py: [tmhost-python]\n"))
+
+    def test_it_is_a_verdict_of_its_own(self) -> None:
+        found = self.objects(self.path, "--tap", self.place("tap"), "--junit", self.place("report.xml"))
+        self.assertEqual([one["verdict"] for one in found], ["ended", "ended", "ok", "xfail"])
+        said = "half of it | last words"
+        self.assertEqual([(one["came"], one["isError"], one["end"], one["said"]) for one in found], [("? Ended", True, "Ended", said)] * 4)
+        output = without_seconds(self.outcome.output)
+        self.assertTrue(output.startswith(f"ended: {self.path}:8 import os, sys\n  before it ended its interpreter had written: {said}\n  @@ -0,0 +1 @@\n  +? Ended\n"), output)
+        self.assertEqual((self.outcome.status, output.splitlines()[-1]), (1, "1 ok, 1 xfail, 2 ended"))
+        tap = self.read(self.place("tap"))
+        self.assertIn(f"\nnot ok 1 - {self.path}:8 import os, sys\n  ---\n  verdict: ended\n", tap)
+        self.assertIn(f'\n  end: "Ended"\n  said: "{said}"\n', tap)
+        suite = xml.etree.ElementTree.parse(self.place("report.xml")).getroot()[0]
+        self.assertEqual([suite.get(name) for name in ("tests", "failures", "errors", "skipped")], ["4", "0", "2", "1"])
+        self.assertEqual([(one.get("type"), one.get("message")) for one in suite.iter("error")], [("ended", f"its interpreter ended (Ended): {said}")] * 2)
+
+    def test_it_failed_and_is_not_accepted(self) -> None:
+        before = self.read()
+        self.assertIn("2 not accepted, since no answer came to a field", self.run_suite(self.path, "--accept").output)
+        self.assertEqual(self.read(), before)
+        self.assertEqual([one["line"] for one in self.objects(self.path, "--rerun", "failed")], [8, 17])
+        self.assertIn(f"::error file={self.path},line=8,title=ended%3A ", self.run_suite(self.path, "--github", "-").output)
+
+    def test_what_an_answer_had_before_is_none_of_it(self) -> None:
+        self.write(case("say half"), case("die"), case("say x", "x"))
+        self.assertEqual([(one["end"], one["said"]) for one in self.objects(self.path)], [(None, ""), ("Ended", ""), (None, "")])

@@ -1,5 +1,6 @@
 """What a case needs is evaluated before it, whatever is chosen: the earlier cases of its session, which are neither compared nor reported."""
 import random
+from typing import List, Tuple
 
 from .support import Case, case, without_seconds
 from .values import expected
@@ -16,7 +17,7 @@ class Base(Case):
     def last_line(self) -> str:
         return without_seconds(self.outcome.output).splitlines()[-1]
 
-    def values(self) -> "list[str]":
+    def values(self) -> List[str]:
         return expected([("a", line, False) for line in LINES])
 
 
@@ -83,7 +84,8 @@ class Independent(Base):
     def test_a_run_that_goes_on(self) -> None:
         """What was done is evaluated again only where a case that is left may need it."""
         left = [case(f"until {self.place('go')}"), case("say 6", "6")]
-        for more, log in (("", ["x1", "x2", "x3", "x4"]), ("independent: true\n", [])):
+        given: Tuple[Tuple[str, List[str]], ...] = (("", LINES), ("independent: true\n", []))
+        for more, log in given:
             self.write(case("say s", "s", "a {setup}"), *(case(line) for line in LINES), *left, more=more)
             self.cut_off(5)
             self.forget()

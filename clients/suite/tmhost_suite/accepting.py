@@ -17,7 +17,7 @@ def accept(text: Optional[Text], reported: List[Reported], asks: Optional[Callab
     that stands before them."""
     if text is None:
         raise Trouble("nothing is accepted into a file of this form: --convert writes the text form")
-    wrong = [at for at, one in enumerate(reported) if one.verdict in ("differs", "new")]
+    wrong = [at for at, one in enumerate(reported) if one.verdict in ("differs", "new", "ended")]
     said: List[str] = []
     if asks is None:
         lost = [at for at in wrong if reported[at].is_lost]

@@ -4,6 +4,7 @@ import dataclasses
 import hashlib
 import json
 import os
+import re
 import subprocess
 import sys
 import tempfile
@@ -11,8 +12,9 @@ import threading
 import time
 from typing import Dict, List, NamedTuple, Optional, Set, Tuple
 
-from tmhost import Banner, Cell, Died, Ended, Event, InUse, NoWorksheet, Refused, Stopped, Worksheet, find_program
+from tmhost import Answered, Banner, Cell, Died, Ended, Event, InUse, NoWorksheet, Partial, Refused, Stopped, Worksheet, find_program
 from tmhost.advice import advised, reason_of_end
+from tmhost.starting import LONGEST_TAIL, last_lines
 from tmhost_fences.troubles import Trouble
 
 from .cases import Suite
@@ -29,11 +31,12 @@ MOMENT = 0.3  # seconds; one that has a worksheet for longer runs its suite
 DISK = "Disk"  # the faults of a disk that fails, or is full
 AGAIN = "run the suite again"  # makes a worksheet again that was removed
 ENDED = "ended"  # in the last note of a run that came to its end, so there is nothing in it to go on with
+PROTOCOL = re.compile(rb"\x02[^:#]*[:#]|[\x05\x1b]")  # what begins and ends blocks, beside their text
 ROOM = 65_536  # bytes that a new worksheet finds on a disk that isn't full
 
 # What can come of a case: what is as wanted, what isn't, and what is the tool's own and went wrong.
 PASSED = ("ok", "flaky", "xfail", "skip", "setup")
-WRONG = ("differs", "new", "xpass")
+WRONG = ("differs", "new", "xpass", "ended")
 BROKEN = "broken"
 
 
@@ -42,7 +45,7 @@ class Result:
     """What came of a case. `got` is what is compared, and `errors` are those that are apart; `tries` is how often it was evaluated; `began_anew` says that its interpreter was
     started for it, other than for the first case of its session; `is_error` that an answer is an error, or has one; `is_lost` that a field has no
     answer; `has_started` that its interpreter came so far that it could have given one; `after_end` is the place of the case that ended the interpreter of
-    its session before, with which went what it may need. These names are those in the notes of a run, which may be one of an earlier version that was broken off: so they stay."""
+    its session before, with which went what it may need; `end` is why its interpreter ended in it, as "Ended", and `said` what that had written last. These names are those in the notes of a run, which may be one of an earlier version that was broken off: so they stay."""
 
     got: str
     seconds: float
@@ -54,28 +57,43 @@ class Result:
     verdict: str = ""
     has_started: bool = True
     after_end: Optional[int] = None
+    end: str = ""
+    said: str = ""
 
 
 # The names that notes didn't have at first, with what they are mostly.
-LATER: Dict[str, object] = {"has_started": True, "after_end": None}
+LATER: Dict[str, object] = {"has_started": True, "after_end": None, "end": "", "said": ""}
 
 
-class Starts:
-    """Which of the lines that were lost had an interpreter that was ready: one that greets has started."""
+class Loss(NamedTuple):
+    """What is known of a line that was lost: whether its interpreter was ready, which greets then, and the last lines that it wrote after its last answer:
+    what adapters pass on of standard error, and of an answer that didn't come to its end."""
 
+    has_started: bool
+    said: str
+
+
+class Losses:
     def __init__(self, sheet: Worksheet) -> None:
         self._greeted: Set[Tuple[str, int]] = set()
-        self._lost: Dict[int, bool] = {}  # by the number of a cell: whether its interpreter had greeted
+        self._written: Dict[str, bytes] = {}  # of each session since its last answer
+        self._lost: Dict[int, Loss] = {}  # by the number of a cell
         self._came = threading.Condition()
         sheet.listen(self._take)
 
     def _take(self, event: Event) -> None:
         with self._came:
-            if isinstance(event, Banner):
+            if isinstance(event, Partial):
+                self._written[event.session] = (self._written.get(event.session, b"") + event.data)[-LONGEST_TAIL:]
+            elif isinstance(event, Banner):
                 self._greeted.add((event.session, event.life))
+                self._written.pop(event.session, None)
+            elif isinstance(event, Answered):
+                self._written.pop(event.session, None)
             elif isinstance(event, (Ended, Stopped)):
+                said = PROTOCOL.sub(b"", self._written.pop(event.session, b"")).decode("utf-8", "backslashreplace")
                 for item in event.lost:
-                    self._lost[item.id] = (event.session, event.life) in self._greeted
+                    self._lost[item.id] = Loss((event.session, event.life) in self._greeted, last_lines(said))
                 self._came.notify_all()
 
     def forget(self, cell: Cell) -> None:
@@ -83,11 +101,11 @@ class Starts:
         with self._came:
             self._lost.pop(cell.id, None)
 
-    def had_started(self, cell: Cell) -> bool:
+    def of(self, cell: Cell) -> Loss:
         """Of a cell whose line was lost. What is reported to listeners comes a moment later than what is reported to who waits."""
         with self._came:
             self._came.wait_for(lambda: cell.id in self._lost, PATIENCE)
-            return self._lost.pop(cell.id, True)
+            return self._lost.pop(cell.id, Loss(True, ""))
 
 
 @dataclasses.dataclass
@@ -101,7 +119,7 @@ class Kept:
     results: Dict[int, Result]
 
     def __post_init__(self) -> None:
-        self.starts = Starts(self.sheet)
+        self.losses = Losses(self.sheet)
 
     def note(self, at: int, result: Result) -> None:
         """A case is done when this has returned. What came isn't kept twice where the case's own cells show it, and stands in notes of its own
@@ -159,7 +177,7 @@ def opened(path: str, of: str, suite: Optional[Suite] = None) -> Worksheet:
     is_said = False
     while True:
         try:
-            return Worksheet(os.path.abspath(path), program=program_of(suite) if suite else None)
+            return Worksheet(os.path.abspath(path), program=program_of(suite) if suite else None, partial=suite is not None)
         except InUse as used:
             waited = time.monotonic() - began
             if waited > PATIENCE:

@@ -37,19 +37,19 @@ def verdict_of(case: Case, result: Result, is_good: bool) -> str:
         return BROKEN if result.is_error or result.is_lost or case.wanted is not None and not is_good else "setup"
     if is_skipped(case, result.got):
         return "skip"
+    is_free = case.wanted is None and case.errors is None
     if not result.has_started and not is_good:
         # A wrong answer is what may be wanted, and this is none: the case wasn't tried.
-        return "new" if case.wanted is None and case.errors is None else "differs"
+        return "ended" if result.end else "new" if is_free else "differs"
     if case.marks.xfail is not None:
         return "xpass" if is_good else "xfail"
     if is_good:
         return "flaky" if result.tries > 1 else "ok"
     if case.marks.may_fail is not None:
         return "xfail"
-    if case.wanted is None and case.errors is None:
-        # What takes down may end its interpreter.
-        return "setup" if case.marks.is_teardown or case.marks.is_setup and not result.is_lost else "new"
-    return "differs"
+    if is_free and (case.marks.is_teardown or case.marks.is_setup and not result.is_lost):
+        return "setup"  # what takes down may end its interpreter
+    return "ended" if result.end else "new" if is_free else "differs"
 
 
 def is_skipped(case: Case, got: str) -> bool:
@@ -159,7 +159,7 @@ class Chain:
         until = began + (case.marks.timeout or self.suite.timeout or self.plan.seconds)
         got: List[Shown] = []
         lost: List[Shown] = []
-        is_error, has_started, rules = False, True, self.suite.rules_of(case)
+        is_error, has_started, end, said, rules = False, True, "", "", self.suite.rules_of(case)
         try:
             for cell in self.kept.cells[at]:
                 answer = self._answer(cell, until)
@@ -167,7 +167,7 @@ class Chain:
                 is_error = is_error or bool(answer.errors)
         except Lost as ended:
             lost.append(Shown(f"? {ended.reason}"))
-            has_started = self.kept.starts.had_started(cell)
+            end, (has_started, said) = ended.reason, self.kept.losses.of(cell)
         except Over as over:
             has_started = over.has_started
             lost.append(Shown(f"? over {until - began:g} s"))
@@ -176,11 +176,12 @@ class Chain:
         if at in self.kept.misfits:
             lost.append(Shown(f"? {self.kept.misfits[at]}"))
         shown, taken = joined(got + lost), time.monotonic() - began
-        return Result(shown.text, taken, began_anew=began_anew, is_error=is_error, is_lost=bool(lost), errors=shown.errors, has_started=has_started)
+        result = Result(shown.text, taken, began_anew=began_anew, is_error=is_error, is_lost=bool(lost), errors=shown.errors, has_started=has_started)
+        return dataclasses.replace(result, end=end, said=said)
 
     def _answer(self, cell: Cell, until: float) -> Answer:
         """The answer of a cell. Raises Lost, where its interpreter ended, Over, where the time is, and Refused."""
-        self.kept.starts.forget(cell)
+        self.kept.losses.forget(cell)
         try:
             return cell.evaluate(max(0.001, until - time.monotonic()))
         except Lost:

@@ -10,7 +10,7 @@ from .reports import Reported, printable
 
 COLOURS = {"-": "31", "+": "32", "@": "36"}
 BOLD = "1"
-ORDER = ("ok", "flaky", "xfail", "skip", "differs", "new", "xpass")
+ORDER = ("ok", "flaky", "xfail", "skip", "differs", "new", "xpass", "ended")
 SILENT = ("? Ended", "? StartRefused", "? Stalled", "? over ")  # how what came of a case without an answer begins
 CLEAR = "\r\x1b[K"
 LONGEST, MOST = 500, 200  # characters of a line, and lines of a text, that a person is shown
@@ -67,6 +67,8 @@ class Teller:
         self.say(self.painted(printable(cut(f"{reported.verdict}{', an error' if reported.is_error else ''}{lost}: {reported.name}{remark}")), BOLD))
         if reported.verdict == "xpass":
             self.say("  it is wanted to fail, and passes")
+        if reported.said:
+            self.say(printable(f"  before it ended its interpreter had written: {reported.said}"))
         for line in shortened(reported.diff[2:] if reported.differs_in_text else reported.diff):
             self.say("  " + self.painted(printable(line), COLOURS.get(line[:1], "")))
 
