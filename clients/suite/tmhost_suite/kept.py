@@ -2,6 +2,7 @@
 import contextlib
 import dataclasses
 import hashlib
+import itertools
 import json
 import os
 import re
@@ -10,10 +11,10 @@ import sys
 import tempfile
 import threading
 import time
-from typing import Dict, List, NamedTuple, Optional, Set, Tuple
+from typing import Callable, Dict, List, NamedTuple, Optional, Set, Tuple
 
 from tmhost import Answered, Banner, Cell, Died, Ended, Event, InUse, NoWorksheet, Partial, Refused, Stopped, Worksheet, find_program
-from tmhost.advice import advised, reason_of_end
+from tmhost.advice import DAMAGED, NOT_A_SHEET, advised, reason, reason_of_end
 from tmhost.starting import LONGEST_TAIL, last_lines
 from tmhost_fences.troubles import Trouble
 
@@ -28,6 +29,7 @@ MOST = 9_500  # of the fields of a suite and a note for each case; a worksheet h
 PART = 250  # characters, each of which JSON writes in up to 12
 PATIENCE, PAUSE = 10.0, 0.05  # seconds; the program of a run that was killed needs a moment to end
 MOMENT = 0.3  # seconds; one that has a worksheet for longer runs its suite
+UNREADABLE = (DAMAGED, NOT_A_SHEET)
 DISK = "Disk"  # the faults of a disk that fails, or is full
 AGAIN = "run the suite again"  # makes a worksheet again that was removed
 ENDED = "ended"  # in the last note of a run that came to its end, so there is nothing in it to go on with
@@ -198,10 +200,41 @@ def opened_or_none(path: str, of: str, suite: Optional[Suite] = None) -> Optiona
         return None
 
 
-def why_ended(died: Died, path: str) -> str:
-    """Why the program of a worksheet has ended, as a user is shown it. Of a disk it may be that there is no room."""
+def why_ended(died: Died, path: str, needs: Optional[str]) -> str:
+    """Why the program of a worksheet has ended, as a user is shown it. Of a disk it may be that there is no room. `needs` is the option that needs what the
+    last run kept."""
+    if needs and died.number in UNREADABLE:
+        return f"{path}: {fault_of(died, path)}: it can't be read, so {needs} can't go by it; run the suite without {needs}: that file is set aside then"
     room = no_room(os.path.dirname(path) or ".") if died.fault == DISK else None
     return room or advised(died, path, AGAIN)
+
+
+def fault_of(died: Died, path: str) -> str:
+    """Its number, its name and where it is."""
+    return reason(died, path).partition(": ")[0]
+
+
+def set_aside(path: str) -> str:
+    """Gives another name to a worksheet that can't be read, and to its second file, and says which: it may be no worksheet, and somebody's."""
+    names = (f"{path}.damaged{number or ''}" for number in itertools.count())
+    new = next(name for name in names if not os.path.lexists(name) and not os.path.lexists(name + SECOND))
+    for end in ("", SECOND):
+        with contextlib.suppress(FileNotFoundError):
+            os.rename(path + end, new + end)
+    return new
+
+
+def clear(path: str, of: str, say: Callable[[str], None]) -> None:
+    """Takes away what an earlier run kept. Where that can't be read, it gets another name. One of a run that goes on isn't touched."""
+    try:
+        sheet = opened_or_none(path, of)
+        if sheet is not None:
+            sheet.close()
+    except Died as died:
+        if died.number not in UNREADABLE:
+            raise
+        say(f"{of}: what an earlier run kept can't be read ({fault_of(died, path)}): it is {set_aside(path)} now, and the suite begins again")
+    remove(path)
 
 
 def no_room(folder: str) -> Optional[str]:
@@ -230,7 +263,7 @@ def make(path: str) -> None:
     os.replace(fresh, path)
 
 
-def begin(path: str, suite: Suite) -> Kept:
+def begin(path: str, suite: Suite, say: Callable[[str], None]) -> Kept:
     """A new run, in the place of an earlier one."""
     folder = os.path.dirname(path) or "."
     if not os.access(folder, os.W_OK | os.X_OK):
@@ -238,10 +271,7 @@ def begin(path: str, suite: Suite) -> Kept:
     fields, notes = sum(len(case.fields) for case in suite.cases), len(suite.cases)
     if fields + notes > MOST:
         raise Trouble(f"its {notes:,} cases with {fields:,} fields are more than {MOST:,} in all, which a run can keep: make two suites of it")
-    sheet = opened_or_none(path, suite.path)  # so that the worksheet of a run that goes on isn't taken away
-    if sheet is not None:
-        sheet.close()
-    remove(path)
+    clear(path, suite.path, say)
     make(path)
     sheet = opened(path, suite.path, suite)
     try:

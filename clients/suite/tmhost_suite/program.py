@@ -264,8 +264,9 @@ class Runner:
             yield
         except (Trouble, TmhostError, OSError) as trouble:
             why = trouble.strerror if isinstance(trouble, OSError) else None
+            needs = "--resume" if self.given.resume else "--rerun failed" if self.given.rerun else None
             if isinstance(trouble, Died):
-                why = worksheets.why_ended(trouble, worksheets.sheet_path(path, self.given.runs))
+                why = worksheets.why_ended(trouble, worksheets.sheet_path(path, self.given.runs), needs)
             if not self.is_broken_off.is_set():
                 self.troubles.append(reports.Trouble(path, why or str(trouble)))
 
@@ -283,7 +284,7 @@ class Runner:
         found = worksheets.resume(path, suite) if self.given.resume else None
         if found is not None:
             self.teller.say(f"{suite.path}: {found.said}")
-        kept = found.kept if found is not None and found.kept is not None else worksheets.begin(path, suite)
+        kept = found.kept if found is not None and found.kept is not None else worksheets.begin(path, suite, self.teller.say)
         with kept.sheet:
             self.sheets.append(kept.sheet)
             plan = Plan(chosen, self.given.seconds, self.slots, self.ended, self.is_broken_off, self.given.fail_fast, self.seed)
