@@ -6,7 +6,7 @@ import re
 from decimal import Decimal
 from typing import Dict, FrozenSet, List, Optional, Tuple
 
-from tmhost_fences.fields import Group
+from tmhost_fences.fields import Group, language_in
 
 from .rules import Normal, Rules
 
@@ -88,7 +88,8 @@ class Suite:
         any_spaces, apart = self.rules.any_spaces or own.any_spaces, self.rules.apart or case.errors is not None
         relative, absolute = own.tolerance or (self.rules.relative, self.rules.absolute)
         normal = self.rules.normal + own.normal
-        return dataclasses.replace(self.rules, normal=normal, relative=relative, absolute=absolute, any_spaces=any_spaces, apart=apart)
+        any_field = language_in(self.sessions[case.session]) == "python"
+        return dataclasses.replace(self.rules, normal=normal, relative=relative, absolute=absolute, any_spaces=any_spaces, apart=apart, any_field=any_field)
 
     @property
     def digest(self) -> str:
