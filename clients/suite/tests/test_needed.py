@@ -94,3 +94,19 @@ class Independent(Base):
             self.assertEqual(self.last_line(), f"2 ok, 5 new, {len(log) + 1} replayed")
             for name in ("go", "suite.md.run", "suite.md.run.alt", "a.log"):
                 self.remove_file(name)
+
+
+class Only(Base):
+    def test_a_part_of_a_first_line(self) -> None:
+        self.write(case("say def f"), case("say def g"), case("say x", info="b"))
+        ran = self.run_suite(self.path, "--only", "def")
+        self.assertEqual((ran.status, ran.errors), (1, "tmhost-suite: no case is one of those that are to be run: --only names whole first lines, and '*def*' chooses 2\n"))
+        self.assertEqual(self.verdicts(self.path, "--only", "*def*"), ["new", "new"])
+        self.assertEqual(self.run_suite(self.path, "--only", "nothing").errors, "tmhost-suite: no case is one of those that are to be run\n")
+
+    def test_a_pattern_with_a_blank_at_its_end(self) -> None:
+        """It stands for itself, and that is said."""
+        self.write(case("say x", "... "), case("say ... ", "x\n.* (re) "), case("say x\ny", "... ", "a {spaces any}"), case("say x", "y"))
+        found = self.objects(self.path)
+        said = "line {} of what is wanted ends in a blank, so it is no pattern"
+        self.assertEqual([(one["verdict"], one["remark"]) for one in found], [("differs", said.format(1)), ("differs", said.format(2)), ("ok", ""), ("differs", "")])

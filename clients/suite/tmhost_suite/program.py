@@ -5,6 +5,7 @@ import fnmatch
 import os
 import random
 import re
+import shlex
 import sys
 import threading
 import time
@@ -65,7 +66,7 @@ def arguments(words: List[str]) -> argparse.Namespace:
     parser.add_argument("--version", action=ShowVersion)
     parser.add_argument("--accept", action="store_true", help="put what came into the text where it isn't what is wanted")
     parser.add_argument("--interactive", action="store_true", help="with --accept: ask for each case")
-    parser.add_argument("--only", metavar="PATTERN", help="run the cases whose line number or first line is this, with * and ? as in names of files")
+    parser.add_argument("--only", metavar="PATTERN", help="run the cases whose line number or whole first line is this, with * and ? as in names of files ('*text*': a part of it)")
     parser.add_argument("--tags", metavar="TAGS", help="run the cases that have one of these tags, with commas between them")
     parser.add_argument("--shard", type=shard, default=(1, 1), metavar="I/N", help="run the I-th of N parts of the suites")
     parser.add_argument("--rerun", choices=["failed"], help="run the cases that weren't as wanted in the last run")
@@ -209,8 +210,14 @@ class Runner:
             for line in trouble.why.split("\n"):
                 print(f"tmhost-suite: {trouble.path}: {cut(line)}", file=sys.stderr)
         if not self.chosen and parts == 1 and (self.given.only or self.given.tags):
-            raise Trouble("no case is one of those that are to be run")
+            raise Trouble("no case is one of those that are to be run" + self._meant_by_only([suite for suite, _ in suites]))
         return not self.troubles and all(one.verdict in PASSED or one.verdict == "out" for one in reported)
+
+    def _meant_by_only(self, suites: List[Suite]) -> str:
+        """What to say of the pattern of `--only`, where it is a part of first lines."""
+        part = f"*{self.given.only or ''}*"
+        count = sum(fnmatch.fnmatchcase(case.title, part) for suite in suites for case in suite.cases) if self.given.only else 0
+        return f": --only names whole first lines, and {shlex.quote(part)} chooses {count}" if count else ""
 
     def _paths(self) -> List[str]:
         """The suites, in the order in which they are named. One that is named, and is in a folder that is, too, is one."""

@@ -110,7 +110,8 @@ class Reported:
         if self.is_wrong and not self.has_started:
             parts.append("its interpreter didn't start")
         if self.verdict == "differs":
-            parts += wrong_patterns(self.case.wanted or "") + wrong_patterns(self.case.errors or "")
+            any_spaces = self.suite.rules_of(self.case).any_spaces
+            parts += [why for text in (self.case.wanted, self.case.errors) for why in wrong_patterns(text or "", any_spaces)]
         return ", ".join(part for part in parts if part)
 
     @property

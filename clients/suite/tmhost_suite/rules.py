@@ -151,16 +151,24 @@ def line_matches(wanted: str, got: str, rules: Rules) -> bool:
     return all(near(*pair, rules) for pair in zip(numbers, others))
 
 
-def wrong_patterns(wanted: str) -> List[str]:
-    """Why lines ` (re)` of an answer are no patterns, each with its number."""
+def wrong_patterns(wanted: str, any_spaces: bool) -> List[str]:
+    """Why lines of an answer that look like patterns are none, each with its number."""
     found: List[str] = []
     for number, line in enumerate(wanted.split("\n"), 1):
-        if line.endswith(BY_PATTERN):
+        bare = line.rstrip()
+        if line != bare and is_pattern(bare) and not any_spaces:
+            found.append(f"line {number} of what is wanted ends in a blank, so it is no pattern")
+        elif line.endswith(BY_PATTERN):
             try:
                 re.compile(line[: -len(BY_PATTERN)])
             except re.error as error:
                 found.append(f"line {number} of what is wanted is no pattern: {error}")
     return found
+
+
+def is_pattern(line: str) -> bool:
+    """Whether a line of an answer stands for others than itself."""
+    return line == ANY_LINES or line.endswith((BY_PATTERN, BY_GLOB))
 
 
 def match(wanted: Sequence[str], got: Sequence[str], rules: Rules) -> bool:
@@ -187,4 +195,4 @@ def exactly(text: str) -> str:
 
 def as_wanted(text: str) -> List[str]:
     """The lines of an answer, as they are wanted exactly. What would be read as a pattern is written as one that matches itself alone."""
-    return [exactly(line) + BY_PATTERN if line == ANY_LINES or line.endswith((BY_PATTERN, BY_GLOB)) else line for line in text.split("\n")]
+    return [exactly(line) + BY_PATTERN if is_pattern(line) else line for line in text.split("\n")]
