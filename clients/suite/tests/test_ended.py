@@ -93,3 +93,16 @@ class Ends(Case):
     def test_what_an_answer_had_before_is_none_of_it(self) -> None:
         self.write(case("say half"), case("die"), case("say x", "x"))
         self.assertEqual([(one["end"], one["said"]) for one in self.objects(self.path)], [(None, ""), ("Ended", ""), (None, "")])
+
+    def test_long_last_words_are_kept(self) -> None:
+        """Those of other alphabets are longer than what a note of a run holds."""
+        self.ends = [("print('\U0001f600' * 300, flush=True)\n" * 3 + "os._exit(1)", "6")]
+        self.write(case(WRITES + self.ends[0][0], "6", "py {whole}"), self.waiting())
+        with open(self.path, encoding="utf-8") as file:
+            text = file.read()
+        with open(self.path, "w", encoding="utf-8") as file:
+            file.write(text.replace("sessions:\n", "sessions:\n  py: [tmhost-python]\n"))
+        self.cut_off(1)
+        found = self.objects(self.path, "--resume")
+        self.assertIn("goes on after 1 of 2 cases", self.outcome.output)
+        self.assertEqual((found[0]["verdict"], found[0]["said"]), ("ended", " | ".join(["\U0001f600" * 300] * 3)))

@@ -128,7 +128,7 @@ class Kept:
         where it may be too long for one."""
         short = dataclasses.asdict(result)
         kept = self.shown(at)
-        for name, own in (("got", kept.text), ("errors", kept.errors)):
+        for name, own in (("got", kept.text), ("errors", kept.errors), ("said", "")):
             said = short[name]
             if said == own:
                 del short[name]
@@ -347,7 +347,7 @@ def found_in(sheet: Worksheet, suite: Suite, notes: List[Dict[str, object]]) -> 
             parts.setdefault((at, str(note["of"])), []).append(str(note["part"]))
             continue
         note.pop("digest")
-        for name, own in (("got", kept.shown(at).text), ("errors", kept.shown(at).errors)):
+        for name, own in (("got", kept.shown(at).text), ("errors", kept.shown(at).errors), ("said", "")):
             count = note.setdefault(name, own)
             if isinstance(count, int):
                 # Those of a run that was broken off between two of them stand in front.
