@@ -1,5 +1,6 @@
 """An interpreter that ends in a case: that is a verdict of its own, with what it had written. What comes after it is marked to the end of its session,
 and not accepted."""
+import sys
 import xml.etree.ElementTree
 from typing import List, Tuple
 
@@ -55,6 +56,35 @@ class After(Case):
             self.remove_file(name)
         self.cut_off(2)
         self.assertEqual([one[2] for one in self.marks("--resume")], [None, None, None, 13])
+
+
+# It answers, and ends after `bye`.
+LEAVES = """import sys
+said = []
+sys.stdout.write("\\x02verbatim:ready\\x05")
+sys.stdout.flush()
+for line in sys.stdin:
+    said.append(line.strip())
+    sys.stdout.write("\\x02verbatim:" + " ".join(said) + "\\x05")
+    sys.stdout.flush()
+    if said[-1] == "bye":
+        break
+"""
+
+
+class Leaves(Case):
+    def test_an_interpreter_that_ends_after_its_answer(self) -> None:
+        """What sets up is evaluated again, and no later answer is accepted."""
+        program = self.make_file("leaves.py", LEAVES)
+        self.write(*(case(line, None, info) for line, info in (("s", "c {setup}"), ("x", "c"), ("bye", "c"), ("y", "c"), ("z", "c"))))
+        text = self.read().replace("sessions:\n", f"sessions:\n  c: [{sys.executable}, {program}]\n")
+        with open(self.path, "w", encoding="utf-8") as file:
+            file.write(text)
+        for _ in range(5):
+            found = self.objects(self.path)
+            self.assertEqual([one["came"] for one in found], ["s", "s x", "s x bye", "s y", "s y z"])
+            self.assertEqual([(one["endedBefore"], one["startedAgain"]) for one in found], [(None, False)] * 3 + [(20, True), (20, False)])
+        self.assertIn("2 not accepted, since line 20 ended their interpreter", self.run_suite(self.path, "--accept").output)
 
 
 class Ends(Case):

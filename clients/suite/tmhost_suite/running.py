@@ -86,6 +86,9 @@ class Chain:
         self.is_fresh = True  # its interpreter isn't started, or starts empty
         self.has_run = False
         self.ended_at: Optional[int] = None  # the last case in which an interpreter of the session ended
+        self.last_at: Optional[int] = None  # the case that was evaluated last
+        self.life: Optional[int] = None  # of the interpreter that gave the last answer its number, 0 where it had ended by then; None where none gave any
+        self.is_bare = False  # an answer came of another interpreter than the one before, which nobody had known to have ended
         self.replayed = 0  # how many cases were evaluated only for those after them
         self.broken = ""  # why its interpreter hasn't what the tool sets up for its cases
 
@@ -130,9 +133,10 @@ class Chain:
         tries, good, result = 0, False, Result("", 0.0)
         while not good and tries <= case.marks.flaky and not self.plan.is_broken_off.is_set():
             tries += 1
-            ended_at = self.ended_at
             result = self._evaluate(at, case)
-            result.after_end = None if self.suite.is_independent(case) else ended_at
+            if self._leave_bare():
+                result = self._evaluate(at, case)  # after what sets up
+            result.after_end = None if self.suite.is_independent(case) else self.ended_at
             self._heed_end(at)
             good = is_good(self.suite, case, result)
         if self.plan.is_broken_off.is_set():
@@ -145,12 +149,31 @@ class Chain:
             self.plan.ended.set()
 
     def _heed_end(self, at: int) -> None:
+        """After a case: whether its interpreter ended in it."""
         if self.is_fresh:
             self.ended_at = at
+        self.last_at = at
+
+    def _notice_end(self) -> None:
+        """Before a case: whether its interpreter has ended since its last answer."""
+        if self.life is not None and self._life_now() != self.life:
+            self.is_fresh, self.ended_at = True, self.last_at
+
+    def _leave_bare(self) -> bool:
+        """Whether the last answer came of an interpreter that has nothing of what sets up, since the one before ended in the moment before it: it is ended."""
+        was_bare, self.is_bare = self.is_bare, False
+        if was_bare and not self.is_fresh:
+            self.kept.sheet.stop(self.session)
+            self.is_fresh = True
+        return was_bare
+
+    def _life_now(self) -> int:
+        return self.kept.sheet.sessions[self.session].life or 0
 
     # ---- one case
 
     def _evaluate(self, at: int, case: Case) -> Result:
+        self._notice_end()
         began_anew = self.is_fresh and self.has_run
         self._begin_life(at)
         if self.broken and not case.marks.is_teardown:
@@ -183,7 +206,12 @@ class Chain:
         """The answer of a cell. Raises Lost, where its interpreter ended, Over, where the time is, and Refused."""
         self.kept.losses.forget(cell)
         try:
-            return cell.evaluate(max(0.001, until - time.monotonic()))
+            answer = cell.evaluate(max(0.001, until - time.monotonic()))
+            life = self._life_now()
+            if self.life is not None and life not in (0, self.life):
+                self.ended_at, self.is_bare = self.last_at, True
+            self.life = life
+            return answer
         except Lost:
             self.is_fresh = True
             raise
@@ -210,7 +238,7 @@ class Chain:
     def _begin_life(self, at: int) -> None:
         """Where its interpreter starts empty and did so before, what sets up in front of this case is evaluated once more."""
         if self.is_fresh:
-            self.broken = ""
+            self.broken, self.life = "", None
         if self.is_fresh and self.has_run:
             places = self.suite.of(self.session)
             self._replay([one for one in places[: places.index(at)] if self.suite.cases[one].marks.is_setup])
@@ -228,8 +256,12 @@ class Chain:
 
     def _replay_case(self, at: int) -> None:
         """Evaluates a case only for those after it."""
+        self._notice_end()
         self._begin_life(at)
         self._replay([at])
+        if self._leave_bare():
+            self._begin_life(at)
+            self._replay([at])
         self._heed_end(at)
         self.replayed += not self.suite.cases[at].is_own
 
