@@ -87,6 +87,18 @@ class Fields(unittest.TestCase):
         self.assertEqual(self.inputs('x = """a\nb"""', "sh"), ['x = """a', 'b"""'])
         self.assertEqual([language_in(words.split()) for words in ("python3 /a/python", "python3 a.py", "a/gp --text", "")], ["python", "", "gp", ""])
 
+    def test_remarks_at_the_left_edge_within_a_block(self) -> None:
+        """A block goes on over them, where it goes on after them at all."""
+        for code, wanted in (
+            ("def f():\n    a = 1\n# remark\n    return a\nf()", ["def f():|    a = 1|# remark|    return a", "f()"]),
+            ("if x:\n    1\n# hm\n\n# and\nelse:\n    2\ny", ["if x:|    1|# hm||# and|else:|    2", "y"]),
+            ("for i in x:\n    i\n# next\ny = 1", ["for i in x:|    i", "# next", "y = 1"]), ("def f():\n    1\n#)\n    2", ["def f():|    1|#)|    2"]),
+            ("# first\n    x", ["# first|    x"]), ("x\n# last", ["x", "# last"]),
+        ):
+            self.assertEqual(self.inputs(code, "tmhost-python"), wanted, code)
+        self.assertEqual(self.inputs("while true; do\n  x\n# hm\ndone\ny", "tmhost-sh"), ["while true; do|  x|# hm|done", "y"])
+        self.assertEqual(self.inputs("f <- function(n) {\n  1\n# hm\n  n\n}\nf", "tmhost-R"), ["f <- function(n) {|  1|# hm|  n|}", "f"])
+
     def test_blocks_and_texts_of_lua(self) -> None:
         for code, wanted in (
             ("repeat\n  f()\nuntil x\ny", ["repeat|  f()|until x", "y"]), ("-- it's (\nx", ["-- it's (", "x"]), ("x = [[\n(\n]]\ny", ["x = [[|(|]]", "y"]), ("--[==[ a\n]]\n]==]\ny", ["--[==[ a|]]|]==]", "y"]),
@@ -138,6 +150,12 @@ class Front(unittest.TestCase):
         self.assertEqual(front_of(["---", "title: sessions", "---"]).lines, 0)
         with self.assertRaisesRegex(Trouble, "no mapping of names, as in `sessions: {py"):
             front_of(["---", "sessions: [a]", "---"])
+
+    def test_words_with_a_space(self) -> None:
+        self.assertEqual(front_of(["---", "sessions: {a: tmhost-gp -q}", "---"]).sessions, {"a": ("tmhost-gp", "-q")})
+        for words, meant in (("[gp -q]", "gp, -q"), ("['gp  -q ']", "gp, -q"), ("[a, b c]", "b, c")):
+            with self.assertRaisesRegex(Trouble, rf"\Athe session a has a word with a space, '.*': write \[{meant}\]\Z"):
+                front_of(["---", f"sessions: {{a: {words}}}", "---"])
 
     def test_whether_fences_are_whole(self) -> None:
         given: List[List[str]] = [[], ["fences: whole"]]

@@ -3,7 +3,7 @@ import dataclasses
 import itertools
 import os
 import re
-from typing import Dict, Iterator, List, Optional, Sequence, Tuple
+from typing import Dict, Iterator, List, Optional, Sequence, Set, Tuple
 
 from . import r
 
@@ -117,12 +117,31 @@ def continued(lines: List[str], language: str) -> Dict[int, int]:
     return r.continued(lines) if language == "R" else {at: at + 1 for at, line in enumerate(lines) if HOLDS.search(line)}
 
 
+def bared(lines: List[str], language: str) -> List[str]:
+    """The lines without what has no brackets that count: texts and remarks."""
+    return without_texts(lines, language) if language in TEXTS else [TEXT.sub("", line) for line in lines]
+
+
+def remarks_within(lines: List[str], language: str) -> Set[int]:
+    """The remarks at the left edge before a line that goes on, with nothing but remarks and empty lines between: a block goes on over them."""
+    goes_on = GOES_ON_IN.get(language, GOES_ON)
+    bare = bared(lines, language)
+    within: Set[int] = set()
+    is_before = False
+    for at in reversed(range(len(lines))):
+        if bare[at].strip(" \t"):
+            is_before = bool(goes_on.match(lines[at]))
+        elif is_before and lines[at].startswith(REMARKS):
+            within.add(at)
+    return within
+
+
 def holds(lines: List[str], language: str, most: int) -> Iterator[int]:
     """Of each line the last one that it holds: that which closes its brackets or ends its statement, where these are at most so many characters;
     that in which it goes on by its end; else itself."""
     ends = list(itertools.accumulate((1 + len(line) for line in lines), initial=0))
     bare = without_texts(lines, language) if language in TEXTS else lines
-    closed = closings(bare if language in TEXTS else [TEXT.sub("", line) for line in lines])
+    closed = closings(bared(lines, language))
     ended, following = statements(bare, language), continued(bare, language)
     for at in range(len(lines)):
         last = max(closed.get(at, at), ended.get(at, at))
@@ -132,6 +151,7 @@ def holds(lines: List[str], language: str, most: int) -> Iterator[int]:
 def groups(lines: List[str], language: str, most: int = LONGEST_INPUT) -> Iterator[Group]:
     """Each line with those that go on from it. Empty lines stand in a group only where it goes on after them."""
     goes_on = GOES_ON_IN.get(language, GOES_ON)
+    within = remarks_within(lines, language)
     taken: List[str] = []
     blanks: List[str] = []
     begin, held = 0, -1
@@ -139,7 +159,7 @@ def groups(lines: List[str], language: str, most: int = LONGEST_INPUT) -> Iterat
         if not line.strip(" \t"):
             blanks.append(line)
             continue
-        if taken and (at <= held or goes_on.match(line) or DECORATOR.match(taken[-1])):
+        if taken and (at <= held or at in within or goes_on.match(line) or DECORATOR.match(taken[-1])):
             taken += [*blanks, line]
         else:
             yield from group(begin, taken)

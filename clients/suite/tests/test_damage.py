@@ -1,8 +1,10 @@
 """A worksheet of an earlier run that can't be read, or opened: a run that begins sets the first aside, and what needs it says so, with what to do."""
 import os
-from typing import List
+from typing import List, Tuple
 
-from .support import Case, case
+from .support import PROGRAM, Case, case
+from tested import fields_of
+from tmhost import Worksheet
 
 
 class Damaged(Case):
@@ -59,6 +61,21 @@ class Damaged(Case):
         self.write(case("say 4", "4", "b"), path=other)
         self.assertEqual(self.run_suite(self.path, other, "--rerun", "failed").status, 1)
         self.assertEqual(self.verdicts(self.path, other), ["differs", "ok", "ok"])
+
+    def test_a_worksheet_of_somebody_else(self) -> None:
+        """It isn't taken for one of a run, and stays."""
+        for name in (self.sheet, self.sheet + ".alt"):
+            os.unlink(name)
+        with Worksheet(self.sheet, create=True, program=PROGRAM) as sheet:
+            sheet.session("mine", ["cat"])
+            sheet.new("mine", "kept")
+        given: Tuple[List[str], ...] = ([], ["--resume"])
+        for words in given:
+            ran = self.run_suite(self.path, *words)
+            said = f"tmhost-suite: {self.path}: {self.sheet} is a worksheet, but not one of tmhost-suite: it stays as it is; move it away, or give --runs FOLDER\n"
+            self.assertEqual((ran.status, ran.errors, self.log("a")), (1, said, []))
+        self.assertEqual([field.input for field in fields_of(self.sheet)], ["kept"])
+        self.assertEqual(self.verdicts(self.path, "--runs", self.place("runs")), ["differs", "ok"])
 
     def test_one_that_cannot_be_opened(self) -> None:
         os.link(self.sheet, self.place("kept"))

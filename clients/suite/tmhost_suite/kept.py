@@ -225,15 +225,19 @@ def set_aside(path: str) -> str:
 
 
 def clear(path: str, of: str, say: Callable[[str], None]) -> None:
-    """Takes away what an earlier run kept. Where that can't be read, it gets another name. One of a run that goes on isn't touched."""
+    """Takes away what an earlier run kept. Where that can't be read, it gets another name. One of a run that goes on isn't touched, nor is one of others."""
     try:
         sheet = opened_or_none(path, of)
-        if sheet is not None:
-            sheet.close()
     except Died as died:
         if died.number not in UNREADABLE:
             raise
         say(f"{of}: what an earlier run kept can't be read ({fault_of(died, path)}): it is {set_aside(path)} now, and the suite begins again")
+        return
+    if sheet is not None:
+        is_own = NOTES in sheet.sessions or not (sheet.sessions or sheet.cells)
+        sheet.close()
+        if not is_own:
+            raise Trouble(f"{path} is a worksheet, but not one of tmhost-suite: it stays as it is; move it away, or give --runs FOLDER")
     remove(path)
 
 

@@ -32,7 +32,7 @@ def make(path: str) -> None:
         with contextlib.suppress(FileNotFoundError):
             os.unlink(name)
     if os.path.lexists(path + SECOND) and os.path.getsize(path + SECOND):
-        raise Trouble(f"{path + SECOND} is there without {path}, to which it belongs")
+        raise Trouble(f"{path + SECOND} is there without {path}, to which it belongs; put that back, or remove {path + SECOND} and {AGAIN}: its answers are lost then")
     made = subprocess.run([find_program(), "create", os.path.join(".", new)], stdin=subprocess.DEVNULL, capture_output=True)
     if made.returncode != 0 and has_no_space(path):
         raise Trouble(f"no space left for {os.path.basename(path)}: make room and weave again")

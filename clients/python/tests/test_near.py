@@ -1,7 +1,9 @@
 """Which words are misspellings of which."""
 import unittest
 
-from tmhost_fences.near import distance, near
+import support  # the place of the package
+
+from tmhost.near import distance, near
 
 WORDS = ("gp", "py", "answer", "error", "maxima", "tex")
 
