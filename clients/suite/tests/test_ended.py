@@ -82,9 +82,15 @@ class Leaves(Case):
             file.write(text)
         for _ in range(5):
             found = self.objects(self.path)
-            self.assertEqual([one["came"] for one in found], ["s", "s x", "s x bye", "s y", "s y z"])
-            self.assertEqual([(one["endedBefore"], one["startedAgain"]) for one in found], [(None, False)] * 3 + [(20, True), (20, False)])
-        self.assertIn("2 not accepted, since line 20 ended their interpreter", self.run_suite(self.path, "--accept").output)
+            came = [str(one["came"]) for one in found]
+            marks = [(one["endedBefore"], one["startedAgain"]) for one in found]
+            self.assertEqual((came[:3], marks[:3]), (["s", "s x", "s x bye"], [(None, False)] * 3))
+            if found[3]["verdict"] == "ended":  # its line was sent before anybody could know
+                self.assertIn((came[3], came[4], marks[4]), [(f"? {why}", "s z", (26, True)) for why in ("Ended", "SendFault")])
+            else:
+                self.assertEqual((came[3:], marks[3:]), (["s y", "s y z"], [(20, True), (20, False)]))
+        self.assertIn(f"{self.path}: 2 accepted\n", self.run_suite(self.path, "--accept").output)
+        self.assertEqual([one["came"] for one in self.objects(self.path) if one["verdict"] == "ok"], ["s x", "s x bye"])
 
 
 class Ends(Case):
