@@ -104,6 +104,10 @@ class Case(InFolder):
             file.write(text)
         return self.place(name)
 
+    def remove_file(self, name: str) -> None:
+        with contextlib.suppress(FileNotFoundError):
+            os.unlink(self.place(name))
+
     def wait_for(self, name: str, line: str) -> None:
         """Waits until this is the last line that an interpreter got."""
         until = time.monotonic() + 60

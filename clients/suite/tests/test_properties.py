@@ -75,12 +75,12 @@ class Random(Case):
         at = self.random.choice([at for at, one in enumerate(cases) if one[2]])
         info, line, wanted = cases[at]
         self.put([*cases[:at], (info, line, self.changed(wanted)), *cases[at + 1 :]])
-        return ["differs" if it == at else "ok" for it in range(len(cases))]
+        return ["ok" if it != at else "ended" if line == "die" else "differs" for it in range(len(cases))]
 
     def judged(self, came: List[Dict[str, Any]]) -> List[str]:
         """What the suite as it is now makes of what came."""
         suite = Text(self.path, self.read()).suite
-        found = [(case, Result(str(one["came"]), 0.0)) for case, one in zip(suite.cases, came)]
+        found = [(case, Result(str(one["came"]), 0.0, end=one["end"] or "")) for case, one in zip(suite.cases, came)]
         return [verdict_of(case, result, is_good(suite, case, result)) for case, result in found]
 
     def test_they_pass_and_each_change_is_one_failure(self) -> None:

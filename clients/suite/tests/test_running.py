@@ -60,7 +60,7 @@ class Verdicts(Case):
     def test_an_interpreter_that_ends_costs_one_case(self) -> None:
         self.write(case("say s", "s", "a {setup}"), case("say x", "x"), case("say t", "t", "a {setup}"), case("die", "? Ended"), case("die", "no"), case("say y", "y"))
         found = self.objects(self.path)
-        self.assertEqual([one["verdict"] for one in found], ["ok", "ok", "ok", "ok", "differs", "ok"])
+        self.assertEqual([one["verdict"] for one in found], ["ok", "ok", "ok", "ok", "ended", "ok"])
         self.assertEqual([one["startedAgain"] for one in found], [False, False, False, False, True, True])
         # What sets up is evaluated again in each new interpreter, and nothing else is.
         self.assertEqual(self.log("a"), ["say s", "say x", "say t", "die", "say s", "say t", "die", "say s", "say t", "say y"])
@@ -88,7 +88,7 @@ class Verdicts(Case):
             text = file.read().replace("sessions:\n", "sessions:\n  c: [./nothing, here]\n")
         with open(self.path, "w", encoding="utf-8") as file:
             file.write(text)
-        self.assertEqual(self.verdicts(self.path), ["differs", "ok"])
+        self.assertEqual(self.verdicts(self.path), ["ended", "ok"])
         self.assertIn("no case of the session c has an answer: do its words start an interpreter here? ./nothing here\n", self.outcome.output)
         with open(self.path, "w", encoding="utf-8") as file:
             file.write(text.replace("[./nothing, here]", "[sh]").replace("---\n", "---\ntimeout: 0.5\n", 1))
@@ -110,7 +110,8 @@ class Verdicts(Case):
         for these, why in (("./nothing", "do its words start an interpreter here? ./nothing"), ("false", "false"), ("cat", "do its words start an interpreter here? cat")):
             self.of_words(these, case("x", "3", "c {xfail known} {timeout 1}"), case("x", "3", "c {may_fail} {timeout 1}"), case("x", None, "c {setup} {timeout 1}"), case("say x", "x"))
             found = self.objects(self.path)
-            self.assertEqual([one["verdict"] for one in found], ["differs", "differs", "new", "ok"], self.outcome.output)
+            verdicts = ["differs", "differs", "new"] if these == "cat" else ["ended"] * 3
+            self.assertEqual([one["verdict"] for one in found], [*verdicts, "ok"], self.outcome.output)
             self.assertEqual(self.outcome.status, 1)
             self.assertEqual([one["remark"] for one in found][:1], ["known, its interpreter didn't start"])
             self.assertIn(f"no case of the session c has an answer: {why}", self.outcome.output)
@@ -126,9 +127,9 @@ class Verdicts(Case):
     def test_a_wanted_failure_without_an_answer_is_named(self) -> None:
         self.write(case("die", "3", "a {xfail a wrong digit}"), case("say 4", "3", "a {xfail another}"), case("stuck", "3", "a {may_fail} {timeout 0.4}"), case("die", None, "b {setup}"), case("die", None, "b {teardown}"))
         ran = self.run_suite(self.path)
-        named = f"xfail, ended: {self.path}:7 die (a wrong digit)\nxfail, over 0.4 s: {self.path}:27 stuck\nnew: {self.path}:37 die\n"
+        named = f"xfail, ended: {self.path}:7 die (a wrong digit)\nxfail, over 0.4 s: {self.path}:27 stuck (in an interpreter that was started again after line 7)\nended: {self.path}:37 die\n"
         self.assertTrue(ran.output.startswith(named), ran.output)
-        self.assertEqual((ran.status, without_seconds(ran.output).splitlines()[-1]), (1, "3 xfail, 1 new"))
+        self.assertEqual((ran.status, without_seconds(ran.output).splitlines()[-1]), (1, "3 xfail, 1 ended"))
         self.assertNotIn("do its words start an interpreter", ran.output)  # they did
 
     def test_why_no_case_has_an_answer(self) -> None:
@@ -138,7 +139,7 @@ class Verdicts(Case):
             text = file.read().replace("sessions:\n", "sessions:\n  c: [tmhost-python, --no-such-word]\n")
         with open(self.path, "w", encoding="utf-8") as file:
             file.write(text)
-        self.assertEqual(self.verdicts(self.path), ["differs", "ok"])
+        self.assertEqual(self.verdicts(self.path), ["ended", "ok"])
         self.assertIn("no case of the session c has an answer: ", self.outcome.output)
         self.assertIn("python: error: unrecognized arguments: --no-such-word\n", self.outcome.output)
 

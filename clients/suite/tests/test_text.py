@@ -171,11 +171,11 @@ class Whole(Case):
         self.assertEqual(self.verdicts(self.path), ["ok", "ok", "ok", "ok"])
 
     def test_what_is_no_answer_is_not_accepted(self) -> None:
-        self.write(case("die", "10"), case("say two", "no"), case("stuck", "11", "a {timeout 1}"))
+        self.write(case("die", "10"), case("say two", "no", "a {independent}"), case("stuck", "11", "a {timeout 1}"))
         accepted = self.run_suite("--accept", self.path)
         self.assertEqual(accepted.status, 1)
         self.assertIn(f"{self.path}: 2 not accepted, since no answer came to a field\n{self.path}: 1 accepted\n", accepted.output)
-        self.assertEqual(self.verdicts(self.path), ["differs", "ok", "differs"])
+        self.assertEqual(self.verdicts(self.path), ["ended", "ok", "differs"])
         self.run_suite("--accept", "--interactive", self.path, given="y\nn\n")
         self.assertEqual(self.verdicts(self.path), ["ok", "ok", "differs"])
 

@@ -5,6 +5,7 @@ from typing import List, Tuple
 
 from .support import Case
 from tmhost_suite.forms import GAP, OCTAVE
+from tmhost_suite.readers import as_text
 from tmhost_suite.transcripts import read_gap, read_octave
 
 GAP_TEXT = """# A remark before the first prompt.
@@ -112,6 +113,12 @@ class Reading(unittest.TestCase):
 
     def test_a_package_of_gap_is_loaded(self) -> None:
         self.assertIn('LoadPackage("laguna", false);;', read_gap("/usr/share/gap/pkg/laguna/tst/a.tst", GAP_TEXT, GAP).cases[0].lines)
+
+    def test_a_block_that_shares_nothing_is_independent(self) -> None:
+        """Each is a function of its own. What it shares changes from block to block."""
+        suite = read_octave("a.m", "%!assert (1)\n%!error <x> y\n%!testif ; true\n%! z\n%!shared x\n%! x = 1;\n%!test x = 2;\n%!assert (x, 2)\n", OCTAVE)
+        self.assertEqual([case.marks.is_independent for case in suite.cases], [True] * 3 + [False] * 3)
+        self.assertEqual(as_text(suite)[0].count("{independent}"), 3)
 
     def test_of_octave_no_demonstration_is_read(self) -> None:
         suite = read_octave("a.m", OCTAVE_TEXT, OCTAVE)

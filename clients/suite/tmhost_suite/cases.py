@@ -6,7 +6,7 @@ import re
 from decimal import Decimal
 from typing import Dict, FrozenSet, List, Optional, Tuple
 
-from tmhost_fences.fields import Group
+from tmhost_fences.fields import Group, language_in
 
 from .rules import Normal, Rules
 
@@ -20,6 +20,7 @@ class Marks:
     is_setup: bool = False
     is_teardown: bool = False
     is_whole: bool = False
+    is_independent: bool = False  # it needs no case before it but those that set up, and none after it needs it
     xfail: Optional[str] = None
     may_fail: Optional[str] = None
     skip: Optional[str] = None
@@ -72,18 +73,23 @@ class Suite:
     left_out: Tuple[str, ...] = ()  # what such a suite has besides, which its text form doesn't get, in words
     doubts: Tuple[str, ...] = ()  # what may not be meant as it stands
     folder: Optional[str] = None  # in which its interpreters are started; None: where tmhost-suite was
+    has_independent_cases: bool = False  # it says so of all its cases
 
     @property
     def count(self) -> int:
         """How many cases it has that are counted."""
         return sum(not case.is_own for case in self.cases)
 
+    def is_independent(self, case: Case) -> bool:
+        return self.has_independent_cases or case.marks.is_independent
+
     def rules_of(self, case: Case) -> Rules:
         own = case.marks
         any_spaces, apart = self.rules.any_spaces or own.any_spaces, self.rules.apart or case.errors is not None
         relative, absolute = own.tolerance or (self.rules.relative, self.rules.absolute)
         normal = self.rules.normal + own.normal
-        return dataclasses.replace(self.rules, normal=normal, relative=relative, absolute=absolute, any_spaces=any_spaces, apart=apart)
+        any_field = language_in(self.sessions[case.session]) == "python"
+        return dataclasses.replace(self.rules, normal=normal, relative=relative, absolute=absolute, any_spaces=any_spaces, apart=apart, any_field=any_field)
 
     @property
     def digest(self) -> str:

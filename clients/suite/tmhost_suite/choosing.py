@@ -3,6 +3,7 @@ import argparse
 import difflib
 import fnmatch
 import re
+import shlex
 from typing import Callable, FrozenSet, List, Optional, Sequence
 
 from . import kept as worksheets
@@ -39,7 +40,10 @@ def why_none(given: argparse.Namespace, suites: Sequence[Suite]) -> str:
     named = [case for _, case in cases if is_named(given, case)]
     if cases and not named:
         names = [f"{suite.path}:{case.line} {case.title}" for suite, case in cases]
-        return "\n".join([f"{none}: none has the line or the first line {given.only}; there are", *listed(names, given.only)])
+        part = f"*{given.only}*"
+        count = sum(fnmatch.fnmatchcase(case.title, part) for _, case in cases)
+        meant = f", and {shlex.quote(part)} chooses {count}" if count else ""
+        return "\n".join([f"{none}: none has the line or the first line {given.only}{meant}; there are", *listed(names, given.only)])
     tags = sorted({tag for case in named for tag in case.marks.tags})
     return f"{none}: --tags {given.tags}; {'their tags are ' + ', '.join(tags) if tags else 'they have no tags'}" if named and given.tags else none
 

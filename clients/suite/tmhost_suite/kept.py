@@ -2,17 +2,20 @@
 import contextlib
 import dataclasses
 import hashlib
+import itertools
 import json
 import os
+import re
 import subprocess
 import sys
 import tempfile
 import threading
 import time
-from typing import Dict, List, NamedTuple, Optional, Set, Tuple
+from typing import Callable, Dict, List, NamedTuple, Optional, Set, Tuple
 
-from tmhost import Banner, Cell, Died, Ended, Event, InUse, NoWorksheet, Refused, Stopped, Worksheet, find_program
-from tmhost.advice import advised, reason_of_end
+from tmhost import Answered, Banner, Cell, Died, Ended, Event, InUse, NoWorksheet, Partial, Refused, Stopped, Worksheet, find_program
+from tmhost.advice import DAMAGED, NOT_A_SHEET, advised, reason, reason_of_end
+from tmhost.starting import LONGEST_TAIL, last_lines
 from tmhost_fences.troubles import Trouble
 
 from .cases import Suite
@@ -26,14 +29,16 @@ MOST = 9_500  # of the fields of a suite and a note for each case; a worksheet h
 PART = 250  # characters, each of which JSON writes in up to 12
 PATIENCE, PAUSE = 10.0, 0.05  # seconds; the program of a run that was killed needs a moment to end
 MOMENT = 0.3  # seconds; one that has a worksheet for longer runs its suite
+UNREADABLE = (DAMAGED, NOT_A_SHEET)
 DISK = "Disk"  # the faults of a disk that fails, or is full
 AGAIN = "run the suite again"  # makes a worksheet again that was removed
 ENDED = "ended"  # in the last note of a run that came to its end, so there is nothing in it to go on with
+PROTOCOL = re.compile(rb"\x02[^:#]*[:#]|[\x05\x1b]")  # what begins and ends blocks, beside their text
 ROOM = 65_536  # bytes that a new worksheet finds on a disk that isn't full
 
 # What can come of a case: what is as wanted, what isn't, and what is the tool's own and went wrong.
 PASSED = ("ok", "flaky", "xfail", "skip", "setup")
-WRONG = ("differs", "new", "xpass")
+WRONG = ("differs", "new", "xpass", "ended")
 BROKEN = "broken"
 
 
@@ -41,7 +46,8 @@ BROKEN = "broken"
 class Result:
     """What came of a case. `got` is what is compared, and `errors` are those that are apart; `tries` is how often it was evaluated; `began_anew` says that its interpreter was
     started for it, other than for the first case of its session; `is_error` that an answer is an error, or has one; `is_lost` that a field has no
-    answer; `has_started` that its interpreter came so far that it could have given one. These names are those in the notes of a run, which may be one of an earlier version that was broken off: so they stay."""
+    answer; `has_started` that its interpreter came so far that it could have given one; `after_end` is the place of the case that ended the interpreter of
+    its session before, with which went what it may need; `end` is why its interpreter ended in it, as "Ended", and `said` what that had written last. These names are those in the notes of a run, which may be one of an earlier version that was broken off: so they stay."""
 
     got: str
     seconds: float
@@ -52,24 +58,44 @@ class Result:
     errors: str = ""
     verdict: str = ""
     has_started: bool = True
+    after_end: Optional[int] = None
+    end: str = ""
+    said: str = ""
 
 
-class Starts:
-    """Which of the lines that were lost had an interpreter that was ready: one that greets has started."""
+# The names that notes didn't have at first, with what they are mostly.
+LATER: Dict[str, object] = {"has_started": True, "after_end": None, "end": "", "said": ""}
 
+
+class Loss(NamedTuple):
+    """What is known of a line that was lost: whether its interpreter was ready, which greets then, and the last lines that it wrote after its last answer:
+    what adapters pass on of standard error, and of an answer that didn't come to its end."""
+
+    has_started: bool
+    said: str
+
+
+class Losses:
     def __init__(self, sheet: Worksheet) -> None:
         self._greeted: Set[Tuple[str, int]] = set()
-        self._lost: Dict[int, bool] = {}  # by the number of a cell: whether its interpreter had greeted
+        self._written: Dict[str, bytes] = {}  # of each session since its last answer
+        self._lost: Dict[int, Loss] = {}  # by the number of a cell
         self._came = threading.Condition()
         sheet.listen(self._take)
 
     def _take(self, event: Event) -> None:
         with self._came:
-            if isinstance(event, Banner):
+            if isinstance(event, Partial):
+                self._written[event.session] = (self._written.get(event.session, b"") + event.data)[-LONGEST_TAIL:]
+            elif isinstance(event, Banner):
                 self._greeted.add((event.session, event.life))
+                self._written.pop(event.session, None)
+            elif isinstance(event, Answered):
+                self._written.pop(event.session, None)
             elif isinstance(event, (Ended, Stopped)):
+                said = PROTOCOL.sub(b"", self._written.pop(event.session, b"")).decode("utf-8", "backslashreplace")
                 for item in event.lost:
-                    self._lost[item.id] = (event.session, event.life) in self._greeted
+                    self._lost[item.id] = Loss((event.session, event.life) in self._greeted, last_lines(said))
                 self._came.notify_all()
 
     def forget(self, cell: Cell) -> None:
@@ -77,11 +103,11 @@ class Starts:
         with self._came:
             self._lost.pop(cell.id, None)
 
-    def had_started(self, cell: Cell) -> bool:
+    def of(self, cell: Cell) -> Loss:
         """Of a cell whose line was lost. What is reported to listeners comes a moment later than what is reported to who waits."""
         with self._came:
             self._came.wait_for(lambda: cell.id in self._lost, PATIENCE)
-            return self._lost.pop(cell.id, True)
+            return self._lost.pop(cell.id, Loss(True, ""))
 
 
 @dataclasses.dataclass
@@ -95,14 +121,14 @@ class Kept:
     results: Dict[int, Result]
 
     def __post_init__(self) -> None:
-        self.starts = Starts(self.sheet)
+        self.losses = Losses(self.sheet)
 
     def note(self, at: int, result: Result) -> None:
         """A case is done when this has returned. What came isn't kept twice where the case's own cells show it, and stands in notes of its own
         where it may be too long for one."""
         short = dataclasses.asdict(result)
         kept = self.shown(at)
-        for name, own in (("got", kept.text), ("errors", kept.errors)):
+        for name, own in (("got", kept.text), ("errors", kept.errors), ("said", "")):
             said = short[name]
             if said == own:
                 del short[name]
@@ -111,8 +137,8 @@ class Kept:
                 for part in parts:
                     self.sheet.new(NOTES, json.dumps({"case": at, "of": name, "part": part}, ensure_ascii=True))
                 short[name] = len(parts)
-        if result.has_started:
-            del short["has_started"]  # so that an earlier version can go on, too
+        # So that an earlier version can go on, too.
+        short = {name: value for name, value in short.items() if name not in LATER or value != LATER[name]}
         self.sheet.new(NOTES, json.dumps({"case": at, "digest": self.suite.cases[at].digest, **short}, ensure_ascii=True))
 
     def shown(self, at: int) -> Shown:
@@ -153,7 +179,7 @@ def opened(path: str, of: str, suite: Optional[Suite] = None) -> Worksheet:
     is_said = False
     while True:
         try:
-            return Worksheet(os.path.abspath(path), program=program_of(suite) if suite else None)
+            return Worksheet(os.path.abspath(path), program=program_of(suite) if suite else None, partial=suite is not None)
         except InUse as used:
             waited = time.monotonic() - began
             if waited > PATIENCE:
@@ -174,10 +200,45 @@ def opened_or_none(path: str, of: str, suite: Optional[Suite] = None) -> Optiona
         return None
 
 
-def why_ended(died: Died, path: str) -> str:
-    """Why the program of a worksheet has ended, as a user is shown it. Of a disk it may be that there is no room."""
+def why_ended(died: Died, path: str, needs: Optional[str]) -> str:
+    """Why the program of a worksheet has ended, as a user is shown it. Of a disk it may be that there is no room. `needs` is the option that needs what the
+    last run kept."""
+    if needs and died.number in UNREADABLE:
+        return f"{path}: {fault_of(died, path)}: it can't be read, so {needs} can't go by it; run the suite without {needs}: that file is set aside then"
     room = no_room(os.path.dirname(path) or ".") if died.fault == DISK else None
     return room or advised(died, path, AGAIN)
+
+
+def fault_of(died: Died, path: str) -> str:
+    """Its number, its name and where it is."""
+    return reason(died, path).partition(": ")[0]
+
+
+def set_aside(path: str) -> str:
+    """Gives another name to a worksheet that can't be read, and to its second file, and says which: it may be no worksheet, and somebody's."""
+    names = (f"{path}.damaged{number or ''}" for number in itertools.count())
+    new = next(name for name in names if not os.path.lexists(name) and not os.path.lexists(name + SECOND))
+    for end in ("", SECOND):
+        with contextlib.suppress(FileNotFoundError):
+            os.rename(path + end, new + end)
+    return new
+
+
+def clear(path: str, of: str, say: Callable[[str], None]) -> None:
+    """Takes away what an earlier run kept. Where that can't be read, it gets another name. One of a run that goes on isn't touched, nor is one of others."""
+    try:
+        sheet = opened_or_none(path, of)
+    except Died as died:
+        if died.number not in UNREADABLE:
+            raise
+        say(f"{of}: what an earlier run kept can't be read ({fault_of(died, path)}): it is {set_aside(path)} now, and the suite begins again")
+        return
+    if sheet is not None:
+        is_own = NOTES in sheet.sessions or not (sheet.sessions or sheet.cells)
+        sheet.close()
+        if not is_own:
+            raise Trouble(f"{path} is a worksheet, but not one of tmhost-suite: it stays as it is; move it away, or give --runs FOLDER")
+    remove(path)
 
 
 def no_room(folder: str) -> Optional[str]:
@@ -206,7 +267,7 @@ def make(path: str) -> None:
     os.replace(fresh, path)
 
 
-def begin(path: str, suite: Suite) -> Kept:
+def begin(path: str, suite: Suite, say: Callable[[str], None]) -> Kept:
     """A new run, in the place of an earlier one."""
     folder = os.path.dirname(path) or "."
     if not os.access(folder, os.W_OK | os.X_OK):
@@ -214,13 +275,7 @@ def begin(path: str, suite: Suite) -> Kept:
     fields, notes = sum(len(case.fields) for case in suite.cases), len(suite.cases)
     if fields + notes > MOST:
         raise Trouble(f"its {notes:,} cases with {fields:,} fields are more than {MOST:,} in all, which a run can keep: make two suites of it")
-    sheet = opened_or_none(path, suite.path)  # so that the worksheet of a run that goes on isn't taken away
-    if sheet is not None:
-        is_own = NOTES in sheet.sessions or not (sheet.sessions or sheet.cells)
-        sheet.close()
-        if not is_own:
-            raise Trouble(f"{path} is a worksheet, but not one of tmhost-suite: it stays as it is; move it away, or give --runs FOLDER")
-    remove(path)
+    clear(path, suite.path, say)
     make(path)
     sheet = opened(path, suite.path, suite)
     try:
@@ -296,7 +351,7 @@ def found_in(sheet: Worksheet, suite: Suite, notes: List[Dict[str, object]]) -> 
             parts.setdefault((at, str(note["of"])), []).append(str(note["part"]))
             continue
         note.pop("digest")
-        for name, own in (("got", kept.shown(at).text), ("errors", kept.shown(at).errors)):
+        for name, own in (("got", kept.shown(at).text), ("errors", kept.shown(at).errors), ("said", "")):
             count = note.setdefault(name, own)
             if isinstance(count, int):
                 # Those of a run that was broken off between two of them stand in front.

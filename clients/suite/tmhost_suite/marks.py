@@ -95,6 +95,8 @@ READERS: Dict[str, Tuple[str, Callable[[str], object]]] = {
     "setup": ("is_setup", lambda rest: True),
     "teardown": ("is_teardown", lambda rest: True),
     "whole": ("is_whole", lambda rest: True),
+    "independent": ("is_independent", lambda rest: True),
+    "pure": ("is_independent", lambda rest: True),  # the word of tmhost-weave
     "xfail": ("xfail", unquoted),
     "may_fail": ("may_fail", unquoted),
     "skip": ("skip", unquoted),

@@ -13,18 +13,17 @@ from typing import Dict, Iterator, List, NamedTuple, Optional, Tuple
 from tmhost import Died, TmhostError, Worksheet
 from tmhost.program import show_building
 from tmhost.version import ShowVersion
-from tmhost_weave.files import put
 from tmhost_fences.targets import refuse_target
 from tmhost_fences.troubles import Trouble
 
 from . import kept as worksheets
 from . import reports
+from .accepting import accept
 from .cases import Suite
 from .choosing import chooser, why_none
 from .kept import PASSED
 from .marks import seconds
 from .reports import FORMATS, Reported, reported_of
-from .rules import as_wanted
 from .running import Plan, run
 from .telling import Teller, cut, standard
 from .readers import as_text, read_other
@@ -66,7 +65,7 @@ def arguments(words: List[str]) -> argparse.Namespace:
     parser.add_argument("--version", action=ShowVersion)
     parser.add_argument("--accept", action="store_true", help="put what came into the text where it isn't what is wanted")
     parser.add_argument("--interactive", action="store_true", help="with --accept: ask for each case")
-    parser.add_argument("--only", metavar="PATTERN", help="run the cases whose line number or first line is this, with * and ? as in names of files")
+    parser.add_argument("--only", metavar="PATTERN", help="run the cases whose line number or whole first line is this, with * and ? as in names of files ('*text*': a part of it)")
     parser.add_argument("--tags", metavar="TAGS", help="run the cases that have one of these tags, with commas between them")
     parser.add_argument("--shard", type=shard, default=(1, 1), metavar="I/N", help="run the I-th of N parts of the suites")
     parser.add_argument("--rerun", choices=["failed"], help="run the cases that weren't as wanted in the last run")
@@ -159,6 +158,7 @@ class Runner:
         self.sheets: List[Worksheet] = []  # those of suites that have begun
         self.accepted: List[str] = []  # what is said of texts that were changed
         self.ran: List[Ran] = []
+        self.replayed: List[int] = []  # of each suite how many cases were evaluated only for those after them
         self.chosen = 0  # how many cases were to be run
         self.troubles: List[reports.Trouble] = []  # why suites weren't run to their end; the others are
         self.seed = str(random.randrange(10**6)) if given.random == "new" else given.random
@@ -247,8 +247,9 @@ class Runner:
             yield
         except (Trouble, TmhostError, OSError) as trouble:
             why = trouble.strerror if isinstance(trouble, OSError) else None
+            needs = "--resume" if self.given.resume else "--rerun failed" if self.given.rerun else None
             if isinstance(trouble, Died):
-                why = worksheets.why_ended(trouble, worksheets.sheet_path(path, self.given.runs))
+                why = worksheets.why_ended(trouble, worksheets.sheet_path(path, self.given.runs), needs)
             if not self.is_broken_off.is_set():
                 self.troubles.append(reports.Trouble(path, why or str(trouble)))
 
@@ -266,11 +267,11 @@ class Runner:
         found = worksheets.resume(path, suite) if self.given.resume else None
         if found is not None:
             self.teller.say(f"{suite.path}: {found.said}")
-        kept = found.kept if found is not None and found.kept is not None else worksheets.begin(path, suite)
+        kept = found.kept if found is not None and found.kept is not None else worksheets.begin(path, suite, self.teller.say)
         with kept.sheet:
             self.sheets.append(kept.sheet)
             plan = Plan(chosen, self.given.seconds, self.slots, self.ended, self.is_broken_off, self.given.fail_fast, self.seed)
-            run(kept, plan, lambda at: self.teller.one_more())
+            self.replayed.append(run(kept, plan, lambda at: self.teller.one_more()))
         reported = reported_of(suite, kept.results, chosen)
         broken = list(reports.broken_in(suite, kept.results))
         self.troubles += broken
@@ -281,35 +282,10 @@ class Runner:
             self.ran.append(Ran(suite.path, path, worksheets.trace_of(path), is_ok))
         if self.given.accept:
             with self._reported_of(suite.path):
-                self._accept(text, reported)
+                self.accepted += accept(text, reported, self._is_wanted if self.given.interactive else None)
         return reported
 
     # ---- what is accepted
-
-    def _accept(self, text: Optional[Text], reported: List[Reported]) -> None:
-        if text is None:
-            raise Trouble("nothing is accepted into a file of this form: --convert writes the text form")
-        answers: Dict[int, str] = {}
-        errors: Dict[int, str] = {}
-        wrong = [at for at, one in enumerate(reported) if one.verdict in ("differs", "new")]
-        lost = [] if self.given.interactive else [at for at in wrong if reported[at].is_lost]
-        if lost:
-            self.accepted.append(f"{text.suite.path}: {len(lost)} not accepted, since no answer came to a field")
-        accepted = [at for at in wrong if (self._is_wanted(reported[at]) if self.given.interactive else at not in lost)]
-        for at in accepted:
-            case, rules = reported[at].case, text.suite.rules_of(reported[at].case)
-            if not rules.is_wanted(case.wanted, reported[at].got, set()):
-                answers[at] = "\n".join(as_wanted(reported[at].got))
-            if rules.apart and not rules.is_wanted(case.errors, reported[at].errors, set()):
-                errors[at] = "\n".join(as_wanted(reported[at].errors))
-        if not accepted:
-            return
-        new = text.checked(answers, errors)
-        with open(text.suite.path, "rb") as file:
-            if file.read() != "".join(text.lines).encode("utf-8"):
-                raise Trouble("the text was changed while it was run: nothing is accepted")
-        put(os.path.realpath(text.suite.path), new.encode("utf-8"))
-        self.accepted.append(f"{text.suite.path}: {len(accepted)} accepted")
 
     def _is_wanted(self, reported: Reported) -> bool:
         self.teller.end_progress()
@@ -333,7 +309,7 @@ class Runner:
             self.teller.tell_slowest(reported, self.given.slowest)
         self.teller.tell_unstarted_sessions(reported)
         self.teller.tell_idle_rules(reported)
-        self.teller.tell_counts(reported, taken)
+        self.teller.tell_counts(reported, sum(self.replayed), taken)
         for line in self.accepted:
             self.teller.say(line)
 

@@ -331,8 +331,8 @@ def marks_of(case: Case) -> str:
     """The words of a case that its reader can have found."""
     marks = case.marks
     reasons = (("skip", marks.skip), ("skip_if", marks.skip_if), ("xfail", marks.xfail), ("may_fail", marks.may_fail), ("tags", " ".join(sorted(marks.tags)) or None))
-    words = [*(["setup"] if marks.is_setup else []), *(["teardown"] if marks.is_teardown else []), *(["spaces any"] if marks.any_spaces else [])]
-    words += [f"{name} {said}".rstrip() for name, said in reasons if said is not None]
+    flags = (("setup", marks.is_setup), ("teardown", marks.is_teardown), ("independent", marks.is_independent), ("spaces any", marks.any_spaces))
+    words = [name for name, is_set in flags if is_set] + [f"{name} {said}".rstrip() for name, said in reasons if said is not None]
     return "".join(f" {{{word}}}" for word in words)
 
 

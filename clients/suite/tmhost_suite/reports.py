@@ -44,6 +44,16 @@ class Reported:
         return bool(self.result and self.result.is_error)
 
     @property
+    def end(self) -> str:
+        """Why its interpreter ended in it, as `Ended`; empty where it didn't."""
+        return self.result.end if self.result else ""
+
+    @property
+    def said(self) -> str:
+        """The last lines that its interpreter had written before it ended, as one."""
+        return self.result.said if self.result else ""
+
+    @property
     def is_lost(self) -> bool:
         """Whether no answer came to a field of it."""
         return bool(self.result and self.result.is_lost)
@@ -54,10 +64,25 @@ class Reported:
         return not self.result or self.result.has_started
 
     @property
+    def began_anew(self) -> bool:
+        return bool(self.result and self.result.began_anew)
+
+    @property
+    def ended_before(self) -> Optional[int]:
+        """The line of the case that ended the interpreter of its session before, with which went what it may need. None where all is there."""
+        at = self.result.after_end if self.result else None
+        return None if at is None else self.suite.cases[at].line
+
+    @property
     def lost_as(self) -> str:
         """In a word or two why no answer came to a field of it, as `ended` or `over 5 s`; empty where all came."""
         last = self.got.rpartition("\n")[2] if self.is_lost else ""
         return last[2:3].lower() + last[3:]
+
+    @property
+    def ended_as(self) -> str:
+        """In a line how its interpreter ended, and what it had written last."""
+        return f"its interpreter ended ({self.end})" + (f": {self.said}" if self.said else "")
 
     @property
     def got(self) -> str:
@@ -79,12 +104,14 @@ class Reported:
         parts = [marks.skip or "", marks.xfail or "", (marks.may_fail or "") if self.verdict == "xfail" else "", self.got.split("\n")[0] if was_skipped else ""]
         if self.result and self.result.tries > 1:
             parts.append(f"tried {self.result.tries} times")
-        if self.result and self.result.began_anew:
-            parts.append("in an interpreter that was started again")
+        if self.began_anew or self.ended_before is not None:
+            after = "" if self.ended_before is None else f" after line {self.ended_before}"
+            parts.append(f"in an interpreter that was started again{after}")
         if self.is_wrong and not self.has_started:
             parts.append("its interpreter didn't start")
         if self.verdict == "differs":
-            parts += wrong_patterns(self.case.wanted or "") + wrong_patterns(self.case.errors or "")
+            any_spaces = self.suite.rules_of(self.case).any_spaces
+            parts += [why for text in (self.case.wanted, self.case.errors) for why in wrong_patterns(text or "", any_spaces)]
         return ", ".join(part for part in parts if part)
 
     @property
@@ -152,11 +179,14 @@ def tap_points(shown: List[Reported], troubles: List[Trouble]) -> Iterator[str]:
     for number, reported in enumerate(shown, 1):
         remark = printable(reported.remark)
         directive = {"skip": f" # SKIP {remark}", "xfail": f" # TODO {remark}", "xpass": f" # TODO {remark}"}.get(reported.verdict, "")
-        yield f"{'not ok' if reported.verdict in ('differs', 'new', 'xfail') else 'ok'} {number} - {tap_text(reported.name)}{directive.rstrip()}"
+        yield f"{'not ok' if reported.verdict in ('differs', 'new', 'ended', 'xfail') else 'ok'} {number} - {tap_text(reported.name)}{directive.rstrip()}"
         if reported.result:
             yield "  ---"
             yield f"  verdict: {reported.verdict}"
             yield f"  duration_ms: {reported.seconds * 1000:.3f}"
+            if reported.end:
+                yield f"  end: {json.dumps(reported.end)}"
+                yield f"  said: {json.dumps(reported.said)}"
             if reported.diff:
                 yield "  diff: |"  # whose first line is `--- wanted`: `prove` knows no indentation in numbers
                 yield from ("    " + printable(line) for line in reported.diff)
@@ -214,14 +244,17 @@ def lasting_names(own: List[Reported]) -> Iterator[str]:
 
 
 def junit_suite(path: str, own: List[Reported], troubles: List[str]) -> Iterator[str]:
-    wrong, skipped = sum(reported.is_wrong for reported in own), sum(reported.verdict in ("skip", "xfail") for reported in own)
+    ended = sum(reported.verdict == "ended" for reported in own)
+    wrong, skipped = sum(reported.is_wrong for reported in own) - ended, sum(reported.verdict in ("skip", "xfail") for reported in own)
     seconds = sum(reported.seconds for reported in own)
-    counts = f'tests="{len(own) + len(troubles)}" failures="{wrong}" errors="{len(troubles)}" skipped="{skipped}" time="{seconds:.3f}"'
+    counts = f'tests="{len(own) + len(troubles)}" failures="{wrong}" errors="{len(troubles) + ended}" skipped="{skipped}" time="{seconds:.3f}"'
     yield f"<testsuite name={xml_attribute(path)} {counts}>"
     place = f"classname={xml_attribute(path)} file={xml_attribute(path_in_repository(path))}"
     for reported, name in zip(own, lasting_names(own)):
         head = f'<testcase {place} line="{reported.case.line}" name={xml_attribute(name)} time="{reported.seconds:.3f}"'
-        if reported.is_wrong:
+        if reported.verdict == "ended":
+            yield f'{head}><error message={xml_attribute(reported.ended_as)} type="ended">{xml_text(chr(10).join(reported.diff))}</error></testcase>'
+        elif reported.is_wrong:
             kind = "error" if reported.is_error else "answer"
             yield f'{head}><failure message={xml_attribute(reported.verdict)} type="{kind}">{xml_text(chr(10).join(reported.diff))}</failure></testcase>'
         elif reported.verdict in ("skip", "xfail"):
@@ -250,10 +283,13 @@ def json_lines(all_reported: List[Reported], troubles: List[Trouble]) -> Iterato
             "came": reported.result.got if reported.result else None,
             "wantedError": reported.case.errors,
             "error": reported.errors,
-            "isError": reported.is_error,
+            "isError": reported.is_error or bool(reported.end),
             "seconds": round(reported.seconds, 6),
             "tries": reported.result.tries if reported.result else 0,
-            "startedAgain": bool(reported.result and reported.result.began_anew),
+            "startedAgain": reported.began_anew,
+            "end": reported.end or None,
+            "said": reported.said,
+            "endedBefore": reported.ended_before,
         }
         yield json.dumps(one, ensure_ascii=True)
     for trouble in troubles:
@@ -280,8 +316,9 @@ def github(all_reported: List[Reported], troubles: List[Trouble]) -> Iterator[st
     """Workflow commands, which GitHub shows at the lines of the text."""
     for reported in all_reported:
         if reported.is_wrong:
+            lines = [*([reported.ended_as] if reported.end else []), *reported.diff]
             path, title = github_member(path_in_repository(reported.suite.path)), github_member(f"{reported.verdict}: {reported.case.title}")
-            yield f"::error file={path},line={reported.case.line},title={title}::{github_text(chr(10).join(reported.diff) or reported.verdict)}"
+            yield f"::error file={path},line={reported.case.line},title={title}::{github_text(chr(10).join(lines) or reported.verdict)}"
     for trouble in troubles:
         yield f"::error file={github_member(path_in_repository(trouble.path))}::{github_text(trouble.why)}"
 

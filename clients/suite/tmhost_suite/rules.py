@@ -10,6 +10,8 @@ from typing import FrozenSet, List, Optional, Sequence, Set, Tuple
 NUMBER = re.compile(r"(?<![\w.])[-+]?(?:(?:[0-9]+\.[0-9]*|\.[0-9]+)(?: ?[eE][-+]?[0-9]+)?|[0-9]+ ?[eE][-+]?[0-9]+)(?!\w)")
 GOES_ON = re.compile(" ?([eE][-+]?)?")  # stands after a number that may go on in the next line
 OUT_OF_BOUNDS = [decimal.InvalidOperation, decimal.Overflow, decimal.Underflow]
+# The number that a traceback of `tmhost-python` has of a field, which counts what its interpreter has got before.
+LINE_OF_PYTHON = re.compile(r'(?<=File "<line )[0-9]+(?=>")')
 ANY_LINES = "..."
 BY_PATTERN, BY_GLOB = " (re)", " (glob)"
 PICTURES, FORMULAS = "pictures", "formulas"  # what can be left out
@@ -49,7 +51,7 @@ class Rules:
     """`relative` and `absolute` are how far numbers may be apart that stand in equal text: the greater of the two allowances. With
     `any_spaces` blanks are compared as one, and those at the ends of lines, and lines without anything else, not at all. What comes is cut
     into lines of `columns` characters, where what is wanted was written by an interpreter that does so. `without` is what is left out of it,
-    and `apart` says that errors are compared for themselves."""
+    and `apart` says that errors are compared for themselves. With `any_field` the number of a field in a traceback of Python isn't compared."""
 
     normal: Tuple[Normal, ...] = ()
     relative: Decimal = Decimal(0)
@@ -58,6 +60,7 @@ class Rules:
     columns: Optional[int] = None
     without: FrozenSet[str] = frozenset()
     apart: bool = False
+    any_field: bool = False
 
     def normalised(self, text: str, applied: Set[int]) -> str:
         """The text after each rule in turn; the places of those that found something are put into `applied`."""
@@ -65,13 +68,18 @@ class Rules:
             text, found = normal.pattern.subn(normal.put, text)
             if found:
                 applied.add(at)
-        return text
+        return LINE_OF_PYTHON.sub("1", text) if self.any_field else text
 
     def is_wanted(self, wanted: Optional[str], got: str, applied: Set[int]) -> bool:
         """Where nothing stands after a case, it is wanted to say nothing."""
         return not got if wanted is None else self.are_alike(wanted, got, applied)
 
     def are_alike(self, wanted: str, got: str, applied: Set[int]) -> bool:
+        # What matches as it is, as a pattern that has such a number, still does.
+        ways = [dataclasses.replace(self, any_field=False), self] if self.any_field else [self]
+        return any(rules._are_alike(wanted, got, applied) for rules in ways)
+
+    def _are_alike(self, wanted: str, got: str, applied: Set[int]) -> bool:
         wanted, got = self.normalised(wanted, applied), self.normalised(got, applied)
         if wanted == got:
             return True
@@ -143,16 +151,24 @@ def line_matches(wanted: str, got: str, rules: Rules) -> bool:
     return all(near(*pair, rules) for pair in zip(numbers, others))
 
 
-def wrong_patterns(wanted: str) -> List[str]:
-    """Why lines ` (re)` of an answer are no patterns, each with its number."""
+def wrong_patterns(wanted: str, any_spaces: bool) -> List[str]:
+    """Why lines of an answer that look like patterns are none, each with its number."""
     found: List[str] = []
     for number, line in enumerate(wanted.split("\n"), 1):
-        if line.endswith(BY_PATTERN):
+        bare = line.rstrip()
+        if line != bare and is_pattern(bare) and not any_spaces:
+            found.append(f"line {number} of what is wanted ends in a blank, so it is no pattern")
+        elif line.endswith(BY_PATTERN):
             try:
                 re.compile(line[: -len(BY_PATTERN)])
             except re.error as error:
                 found.append(f"line {number} of what is wanted is no pattern: {error}")
     return found
+
+
+def is_pattern(line: str) -> bool:
+    """Whether a line of an answer stands for others than itself."""
+    return line == ANY_LINES or line.endswith((BY_PATTERN, BY_GLOB))
 
 
 def match(wanted: Sequence[str], got: Sequence[str], rules: Rules) -> bool:
@@ -179,4 +195,4 @@ def exactly(text: str) -> str:
 
 def as_wanted(text: str) -> List[str]:
     """The lines of an answer, as they are wanted exactly. What would be read as a pattern is written as one that matches itself alone."""
-    return [exactly(line) + BY_PATTERN if line == ANY_LINES or line.endswith((BY_PATTERN, BY_GLOB)) else line for line in text.split("\n")]
+    return [exactly(line) + BY_PATTERN if is_pattern(line) else line for line in text.split("\n")]

@@ -10,6 +10,7 @@ from typing import Callable, List, Optional
 
 from tmhost import Answer, Cell, Lost, Refused, TimedOut
 
+from .agenda import agenda_of, is_fixed
 from .cases import Case, Suite
 from .kept import BROKEN, WRONG, Kept, Result, joined
 from .shown import Shown, shown_of
@@ -36,19 +37,19 @@ def verdict_of(case: Case, result: Result, is_good: bool) -> str:
         return BROKEN if result.is_error or result.is_lost or case.wanted is not None and not is_good else "setup"
     if is_skipped(case, result.got):
         return "skip"
+    is_free = case.wanted is None and case.errors is None
     if not result.has_started and not is_good:
         # A wrong answer is what may be wanted, and this is none: the case wasn't tried.
-        return "new" if case.wanted is None and case.errors is None else "differs"
+        return "ended" if result.end else "new" if is_free else "differs"
     if case.marks.xfail is not None:
         return "xpass" if is_good else "xfail"
     if is_good:
         return "flaky" if result.tries > 1 else "ok"
     if case.marks.may_fail is not None:
         return "xfail"
-    if case.wanted is None and case.errors is None:
-        # What takes down may end its interpreter.
-        return "setup" if case.marks.is_teardown or case.marks.is_setup and not result.is_lost else "new"
-    return "differs"
+    if is_free and (case.marks.is_teardown or case.marks.is_setup and not result.is_lost):
+        return "setup"  # what takes down may end its interpreter
+    return "ended" if result.end else "new" if is_free else "differs"
 
 
 def is_skipped(case: Case, got: str) -> bool:
@@ -84,6 +85,11 @@ class Chain:
         self.suite = kept.suite
         self.is_fresh = True  # its interpreter isn't started, or starts empty
         self.has_run = False
+        self.ended_at: Optional[int] = None  # the last case in which an interpreter of the session ended
+        self.last_at: Optional[int] = None  # the case that was evaluated last
+        self.life: Optional[int] = None  # of the interpreter that gave the last answer its number, 0 where it had ended by then; None where none gave any
+        self.is_bare = False  # an answer came of another interpreter than the one before, which nobody had known to have ended
+        self.replayed = 0  # how many cases were evaluated only for those after them
         self.broken = ""  # why its interpreter hasn't what the tool sets up for its cases
 
     @property
@@ -91,39 +97,36 @@ class Chain:
         """The places of its cases. Where they are shuffled, what sets up comes first and what takes down last, as they stand."""
         places = self.suite.of(self.session)
         if self.plan.seed is not None:
-            free = [at for at in places if not self._is_fixed(at)]
+            free = [at for at in places if not is_fixed(self.suite.cases[at])]
             mixed = iter(random.Random(f"{self.plan.seed} {self.session}").sample(free, len(free)))
-            fixed = [at for at in places if self._is_fixed(at)]
+            fixed = [at for at in places if is_fixed(self.suite.cases[at])]
             first = [at for at in fixed if self.suite.cases[at].marks.is_setup]
             places = first + list(mixed) + [at for at in fixed if at not in first]
         return places
-
-    def _is_fixed(self, at: int) -> bool:
-        marks = self.suite.cases[at].marks
-        return marks.is_setup or marks.is_teardown
 
     def _is_broken(self, own: List[int]) -> bool:
         """Whether what the tool sets up, at these places, went wrong."""
         return any(at in self.kept.results and self.kept.results[at].verdict == BROKEN for at in own)
 
     def run(self) -> None:
-        order = self.order
-        done = [at for at in order if at in self.kept.results]
-        own = [at for at in order if self.suite.cases[at].is_own and self.suite.cases[at].marks.is_setup]
-        for at in order:
+        agenda = agenda_of(self.suite, self.order, self.kept.results, self.plan.chosen)
+        own = [at for at in self.order if self.suite.cases[at].is_own and self.suite.cases[at].marks.is_setup]
+        past = agenda.past
+        for at, is_judged in agenda.steps:
             case = self.suite.cases[at]
-            if at in self.kept.results or case.marks.skip is not None or not (self.plan.chosen(at, case) or self._is_fixed(at)):
-                continue
             if self._is_broken(own) and not case.marks.is_teardown:
                 continue  # it would be evaluated elsewhere than in what the program of its form makes for it
             with self.plan.slots:
                 if self.plan.ended.is_set():
                     return
-                if done:
-                    self._replay_done(done)
-                    done = []
-                self._judge(at, case)
-            if not case.is_own:
+                if past:
+                    self._replay_past(past, agenda.needed)
+                    past = []
+                if is_judged:
+                    self._judge(at, case)
+                else:
+                    self._replay_case(at)
+            if is_judged and not case.is_own:
                 self.tell(at)
 
     def _judge(self, at: int, case: Case) -> None:
@@ -131,6 +134,10 @@ class Chain:
         while not good and tries <= case.marks.flaky and not self.plan.is_broken_off.is_set():
             tries += 1
             result = self._evaluate(at, case)
+            if self._leave_bare():
+                result = self._evaluate(at, case)  # after what sets up
+            result.after_end = None if self.suite.is_independent(case) else self.ended_at
+            self._heed_end(at)
             good = is_good(self.suite, case, result)
         if self.plan.is_broken_off.is_set():
             return
@@ -141,9 +148,32 @@ class Chain:
         if self.plan.fails_fast and result.verdict in (*WRONG, BROKEN):
             self.plan.ended.set()
 
+    def _heed_end(self, at: int) -> None:
+        """After a case: whether its interpreter ended in it."""
+        if self.is_fresh:
+            self.ended_at = at
+        self.last_at = at
+
+    def _notice_end(self) -> None:
+        """Before a case: whether its interpreter has ended since its last answer."""
+        if self.life is not None and self._life_now() != self.life:
+            self.is_fresh, self.ended_at = True, self.last_at
+
+    def _leave_bare(self) -> bool:
+        """Whether the last answer came of an interpreter that has nothing of what sets up, since the one before ended in the moment before it: it is ended."""
+        was_bare, self.is_bare = self.is_bare, False
+        if was_bare and not self.is_fresh:
+            self.kept.sheet.stop(self.session)
+            self.is_fresh = True
+        return was_bare
+
+    def _life_now(self) -> int:
+        return self.kept.sheet.sessions[self.session].life or 0
+
     # ---- one case
 
     def _evaluate(self, at: int, case: Case) -> Result:
+        self._notice_end()
         began_anew = self.is_fresh and self.has_run
         self._begin_life(at)
         if self.broken and not case.marks.is_teardown:
@@ -152,7 +182,7 @@ class Chain:
         until = began + (case.marks.timeout or self.suite.timeout or self.plan.seconds)
         got: List[Shown] = []
         lost: List[Shown] = []
-        is_error, has_started, rules = False, True, self.suite.rules_of(case)
+        is_error, has_started, end, said, rules = False, True, "", "", self.suite.rules_of(case)
         try:
             for cell in self.kept.cells[at]:
                 answer = self._answer(cell, until)
@@ -160,7 +190,7 @@ class Chain:
                 is_error = is_error or bool(answer.errors)
         except Lost as ended:
             lost.append(Shown(f"? {ended.reason}"))
-            has_started = self.kept.starts.had_started(cell)
+            end, (has_started, said) = ended.reason, self.kept.losses.of(cell)
         except Over as over:
             has_started = over.has_started
             lost.append(Shown(f"? over {until - began:g} s"))
@@ -169,13 +199,19 @@ class Chain:
         if at in self.kept.misfits:
             lost.append(Shown(f"? {self.kept.misfits[at]}"))
         shown, taken = joined(got + lost), time.monotonic() - began
-        return Result(shown.text, taken, began_anew=began_anew, is_error=is_error, is_lost=bool(lost), errors=shown.errors, has_started=has_started)
+        result = Result(shown.text, taken, began_anew=began_anew, is_error=is_error, is_lost=bool(lost), errors=shown.errors, has_started=has_started)
+        return dataclasses.replace(result, end=end, said=said)
 
     def _answer(self, cell: Cell, until: float) -> Answer:
         """The answer of a cell. Raises Lost, where its interpreter ended, Over, where the time is, and Refused."""
-        self.kept.starts.forget(cell)
+        self.kept.losses.forget(cell)
         try:
-            return cell.evaluate(max(0.001, until - time.monotonic()))
+            answer = cell.evaluate(max(0.001, until - time.monotonic()))
+            life = self._life_now()
+            if self.life is not None and life not in (0, self.life):
+                self.ended_at, self.is_bare = self.last_at, True
+            self.life = life
+            return answer
         except Lost:
             self.is_fresh = True
             raise
@@ -202,20 +238,32 @@ class Chain:
     def _begin_life(self, at: int) -> None:
         """Where its interpreter starts empty and did so before, what sets up in front of this case is evaluated once more."""
         if self.is_fresh:
-            self.broken = ""
+            self.broken, self.life = "", None
         if self.is_fresh and self.has_run:
             places = self.suite.of(self.session)
             self._replay([one for one in places[: places.index(at)] if self.suite.cases[one].marks.is_setup])
         self.is_fresh, self.has_run = False, True
 
-    def _replay_done(self, done: List[int]) -> None:
+    def _replay_past(self, past: List[int], needed: List[int]) -> None:
         """Brings a new interpreter to where that of the run that was broken off stood: what set up before the last case in which an
-        interpreter ended, and all after that."""
-        cut = max((place for place, at in enumerate(done) if self._was_lost(at)), default=-1)
-        before = [at for at in done[: cut + 1] if self.suite.cases[at].marks.is_setup]
-        self.has_run, self.is_fresh = True, cut + 1 == len(done)
-        if not self.is_fresh:
-            self._replay(before + done[cut + 1 :])
+        interpreter ended, and all after that; of both what is needed."""
+        cut = max((place for place, at in enumerate(past) if self._was_lost(at)), default=-1)
+        self.has_run, self.is_fresh, self.ended_at = True, cut + 1 == len(past), past[cut] if cut >= 0 else None
+        after = frozenset(past[cut + 1 :])
+        for at in needed if after else []:
+            if self.suite.cases[at].marks.is_setup or at in after:
+                self._replay_case(at)
+
+    def _replay_case(self, at: int) -> None:
+        """Evaluates a case only for those after it."""
+        self._notice_end()
+        self._begin_life(at)
+        self._replay([at])
+        if self._leave_bare():
+            self._begin_life(at)
+            self._replay([at])
+        self._heed_end(at)
+        self.replayed += not self.suite.cases[at].is_own
 
     def _was_lost(self, at: int) -> bool:
         return any(cell.state != "answered" for cell in self.kept.cells[at])
@@ -246,10 +294,11 @@ class Chain:
             self.broken = shown.text
 
 
-def run(kept: Kept, plan: Plan, tell: Callable[[int], None]) -> None:
-    """Runs all cases that aren't done, each session in a thread of its own."""
+def run(kept: Kept, plan: Plan, tell: Callable[[int], None]) -> int:
+    """Runs all cases that aren't done, each session in a thread of its own. Says how many were evaluated only for those after them."""
     judge_again(kept)
     chains = [Chain(kept, name, plan, tell) for name in kept.suite.sessions]
     with ThreadPoolExecutor(len(chains)) as pool:
         for done in [pool.submit(chain.run) for chain in chains]:
             done.result()
+    return sum(chain.replayed for chain in chains)

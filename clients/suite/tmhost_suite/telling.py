@@ -10,7 +10,7 @@ from .reports import Reported, printable
 
 COLOURS = {"-": "31", "+": "32", "@": "36"}
 BOLD = "1"
-ORDER = ("ok", "flaky", "xfail", "skip", "differs", "new", "xpass")
+ORDER = ("ok", "flaky", "xfail", "skip", "differs", "new", "xpass", "ended")
 SILENT = ("? Ended", "? StartRefused", "? Stalled", "? over ")  # how what came of a case without an answer begins
 CLEAR = "\r\x1b[K"
 LONGEST, MOST = 500, 200  # characters of a line, and lines of a text, that a person is shown
@@ -67,6 +67,8 @@ class Teller:
         self.say(self.painted(printable(cut(f"{reported.verdict}{', an error' if reported.is_error else ''}{lost}: {reported.name}{remark}")), BOLD))
         if reported.verdict == "xpass":
             self.say("  it is wanted to fail, and passes")
+        if reported.said:
+            self.say(printable(f"  before it ended its interpreter had written: {reported.said}"))
         for line in shortened(reported.diff[2:] if reported.differs_in_text else reported.diff):
             self.say("  " + self.painted(printable(line), COLOURS.get(line[:1], "")))
 
@@ -127,13 +129,13 @@ class Teller:
             for line in shortened(normalised.split("\n")):
                 self.say("  " + printable(line))
 
-    def tell_counts(self, all_reported: List[Reported], seconds: float) -> None:
+    def tell_counts(self, all_reported: List[Reported], replayed: int, seconds: float) -> None:
         counts: Dict[str, int] = {}
         for reported in all_reported:
             counts[reported.verdict] = counts.get(reported.verdict, 0) + 1
         parts = [f"{counts[verdict]} {verdict}" for verdict in ORDER if counts.get(verdict)]
         left_out = counts.get("out", 0)
-        more = f", {left_out} left out" if left_out else ""
+        more = (f", {left_out} left out" if left_out else "") + (f", {replayed} replayed" if replayed else "")
         self.say(f"{', '.join(parts) or 'no cases'}{more} in {seconds:.1f} s")
 
 

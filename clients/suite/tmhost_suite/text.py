@@ -19,7 +19,7 @@ from .marks import has_marks, is_text, read_marks, seconds, session_in
 from .rules import FORMULAS, PICTURES, Normal, Rules, allowance, normal_of
 
 ANSWER, ERROR = "answer", "error"
-KEYS = ("sessions", "normal", "tolerance", "timeout", "spaces", "columns", "without", "errors", "folder", "fences")
+KEYS = ("sessions", "normal", "tolerance", "timeout", "spaces", "columns", "without", "errors", "folder", "fences", "independent")
 NO_SESSIONS = "the text names no sessions: its first lines must be as `---`, `sessions: {py: [tmhost-python]}`, `---`"
 RUN = re.compile("`+")
 COLUMNS = re.compile(r"[1-9][0-9]{0,5}", re.ASCII)
@@ -136,6 +136,13 @@ def folder_in(front: Dict[str, Any], path: str) -> Optional[str]:
     return found
 
 
+def independent_in(front: Dict[str, Any]) -> bool:
+    word = front.get("independent", "false")
+    if word not in ("true", "false"):
+        raise Trouble("`independent` can only be `true` or `false`")
+    return bool(word == "true")
+
+
 def is_after(block: Block, other: Block, lines: Sequence[str]) -> bool:
     """Whether there is nothing but empty lines between the fences."""
     return not any(line.strip(" \t>") for line in lines[block.end : other.begin])
@@ -197,7 +204,8 @@ class Text:
         self.cases: List[Case] = []
         self.spans: List[Dict[str, Span]] = []
         self._read(contents, blocks_of(contents, first))
-        self.suite = Suite(path, self.sessions, rules_in(front), timeout_in(front), tuple(self.cases), folder=folder_in(front, path))
+        rules, folder, is_independent = rules_in(front), folder_in(front, path), independent_in(front)
+        self.suite = Suite(path, self.sessions, rules, timeout_in(front), tuple(self.cases), folder=folder, has_independent_cases=is_independent)
 
     def _read(self, lines: List[str], blocks: List[Block]) -> None:
         # Before anything else, since a word that is misspelt has others at the wrong place.

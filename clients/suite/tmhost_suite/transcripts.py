@@ -1,4 +1,5 @@
 """Test files of GAP and of Octave, as they are: `gap> ` in GAP's `.tst`, and blocks `%!` in Octave's `.tst` and `.m`."""
+import dataclasses
 import os
 import re
 from typing import Iterator, List, Optional, Tuple
@@ -130,18 +131,19 @@ def where_it_can(code: str, shared: str) -> str:
 
 
 def octave_case(session: str, kind: str, code: str, shared: str, line: int) -> Optional[Case]:
-    """The case of a block. None where it has nothing to evaluate."""
+    """The case of a block, which stands alone where nothing is shared. None where it has nothing to evaluate."""
+    marks = Marks(is_independent=not shared)
     if kind == "function":
         return whole_case(session, f"function{code}\nendfunction", None, line, Marks(is_setup=True))
     if kind in ("error", "warning"):
-        return whole_case(session, *message(code, shared, kind), line, Marks())
+        return whole_case(session, *message(code, shared, kind), line, marks)
     bug = OCTAVE_BUG.match(code)
     if bug and kind != "testif":
         code = code[bug.end() :]
-    marks = Marks(may_fail="a known bug" if kind == "xtest" or bug and not bug[1] else None)
+    marks = dataclasses.replace(marks, may_fail="a known bug" if kind == "xtest" or bug and not bug[1] else None)
     passes = f"{ANY_LINES}\n{PASSED}"
     if kind == "testif":
-        return whole_case(session, where_it_can(code, shared), passes, line, Marks(skip_if=f"^{SKIPPED}"))
+        return whole_case(session, where_it_can(code, shared), passes, line, dataclasses.replace(marks, may_fail=None, skip_if=f"^{SKIPPED}"))
     if kind in ("test", "xtest", "assert", "fail"):
         code = code if kind in ("test", "xtest") else kind + code
         return whole_case(session, f"{called(code, shared)}\ndisp ({PASSED!r})", passes, line, marks)
