@@ -14,10 +14,13 @@ from tmhost.version import ShowVersion
 from .cutting import LONGEST
 from .files import locked
 from tmhost_fences.troubles import Trouble
+from .targets import why_unclear
 from .weaving import Weave
 
 ABOUT = "Evaluates the code in a CommonMark text, and puts each answer after its fence."
 NOTES = """
+With --html a page of the woven text is written, too, which stands alone: prose, code, answers, pictures, formulas, title and authors of the front matter.
+Nothing is evaluated for it a second time. It is written only where the status would be 0. It has no code of fences with echo=FALSE or include=FALSE.
 Several texts are woven in turn: the status is that of the worst, and the last line names those that failed.
 The front matter of TEXT names the sessions, as `sessions: {py: [tmhost-python]}`. After the session of a fence may
 stand {whole}, {pure}, {hide} and {fold}, or {literal} where its code is a text; `fences: whole` in the front matter makes each fence one field.
@@ -54,6 +57,7 @@ def arguments(words: List[str]) -> argparse.Namespace:
     what.add_argument("--check", action="store_true", help="evaluate nothing, write nothing, and say what would change")
     what.add_argument("--test", action="store_true", help="evaluate all again, write nothing, and show which answers of TEXT are others now, as for a CI")
     parser.add_argument("--output", metavar="FILE", help="where the woven text goes, in place of TEXT (-: standard output)")
+    parser.add_argument("--html", metavar="FILE", help="where a page of TEXT goes, which stands alone: a name that ends in .html, or a folder")
     parser.add_argument("--seconds", type=seconds, metavar="N", help="how long a field may take (no limit)")
     parser.add_argument(
         "--longest", type=bytes_shown, default=LONGEST, metavar="BYTES", help=f"how much of an answer's text is shown; the worksheet has it whole ({LONGEST:,})"
@@ -63,8 +67,13 @@ def arguments(words: List[str]) -> argparse.Namespace:
     given = parser.parse_args(words)
     if given.test and given.output is not None:
         parser.error("--test writes nothing, so there is no --output for it")
+    if given.html is not None and (given.check or given.test):
+        parser.error("--check and --test write nothing, so there is no --html for them")
     if given.output is not None and len(given.texts) > 1:
         parser.error("--output is the place of one text, and several are given")
+    why = None if given.html is None else why_unclear(given.html, given.texts)
+    if why:
+        parser.error(why)
     return given
 
 
@@ -73,7 +82,7 @@ def run(given: argparse.Namespace, text: str) -> bool:
         with tempfile.TemporaryDirectory(prefix="tmhost-weave-") as folder:
             return Weave(text, None, folder, given.no_errors, given.longest).test(given.seconds)
     with locked(os.path.realpath(text)):
-        weave = Weave(text, given.output, None, given.no_errors, given.longest)
+        weave = Weave(text, given.output, None, given.no_errors, given.longest, given.html)
         return weave.check() if given.check else weave.weave(given.seconds)
 
 

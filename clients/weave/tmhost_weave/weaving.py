@@ -17,9 +17,13 @@ from .document import ERRORS_FAIL, ERRORS_WANTED, FOLD, HIDE, TEXTLESS, Document
 from .evaluation import AT_CODE, AT_START, UNTRIED, Evaluator
 from .files import new_name, put, read
 from .formulas import parts_of
+from .matter import matter_of
+from .page import Page
 from .pictures import Pictures
 from .plan import Plan, Wanted
 from .sheets import AGAIN, fit, has_no_space, make, opened, sheet_path, shorten
+from .targets import page_of, place_of
+from tmhost_fences.blocks import cut as cut_line
 from tmhost_fences.targets import refuse_target
 from tmhost_fences.troubles import Trouble
 
@@ -87,9 +91,12 @@ def later_ones(wanted: List[Wanted]) -> str:
 
 class Weave:
     """`output` is where the woven text goes: None for the text itself, "-" for standard output. `folder` is where the worksheet lies, if not beside the text.
-    `errors_fail` is whether an error is a failure where the options of its fence don't say; `longest` is how many bytes of an answer's text are shown."""
+    `errors_fail` is whether an error is a failure where the options of its fence don't say; `longest` is how many bytes of an answer's text are shown. `page` is where a
+    page of it goes, a file or a folder, if anywhere."""
 
-    def __init__(self, name: str, output: Optional[str], folder: Optional[str] = None, errors_fail: bool = False, longest: int = LONGEST) -> None:
+    def __init__(
+        self, name: str, output: Optional[str], folder: Optional[str] = None, errors_fail: bool = False, longest: int = LONGEST, page: Optional[str] = None
+    ) -> None:
         self.name, self.path = name, os.path.realpath(name)
         self.errors_fail, self.longest = errors_fail, longest
         self.target = None if output == "-" else self.path if output is None else os.path.realpath(output)
@@ -100,6 +107,9 @@ class Weave:
             raise Trouble("the text has the name of its worksheet")
         if self.target and self.target != self.path:
             refuse_target("--output", self.target, (self.sheet_path, self.sheet_path + ".alt"))
+        self.page = page_of(page, name) if page else None
+        kept = (self.path, self.target or "", self.sheet_path, self.sheet_path + ".alt")
+        self.page_place = place_of(page, self.page, kept) if page and self.page else ""
         self.data = read(self.path)
         self.document = Document(text_of(self.data))
         self.fields: Dict[int, Field] = {}
@@ -114,8 +124,11 @@ class Weave:
             self.say(f"line {line}: an answer that is after no fence of a session stays as text")
         for line, why in self.document.doubts:
             self.say(f"line {line}: {why}")
-        if self.document.ignored:
-            self.say("options that are ignored: " + ", ".join(f"{name} (line {line})" for name, line in sorted(self.document.ignored.items())))
+        ignored = dict(self.document.ignored)
+        for name, line in self.document.of_pages.items() if not self.page else ():
+            ignored[name] = min(line, ignored.get(name, line))
+        if ignored:
+            self.say("options that are ignored: " + ", ".join(f"{name} (line {line})" for name, line in sorted(ignored.items())))
         if not self.document.fences:
             self.say(why_nothing(self.document))
 
@@ -251,7 +264,24 @@ class Weave:
         self.write(bytes_of(self.document.checked(shown)))
         if self.target == self.path:
             plan.move(self.document.moved(shown))
-        return self.is_answered(plan)
+        is_answered = self.is_answered(plan)
+        return self.write_page(shown, is_answered) and is_answered
+
+    def write_page(self, shown: Sequence[Shown], is_answered: bool) -> bool:
+        """Whether the page that is wanted is written, and whole. Of a text that isn't answered as it is meant there is none."""
+        if not self.page or not is_answered:
+            if self.page:
+                self.say(f"{self.page} isn't written, since the text isn't answered as it is meant")
+            return not self.page
+        matter = matter_of([cut_line(line)[0] for line in self.document.lines])
+        page = Page(self.document, shown, self.pictures.wanted, matter, os.path.dirname(self.path))
+        html = page.html(os.path.splitext(os.path.basename(self.path))[0])
+        os.makedirs(os.path.dirname(self.page_place), exist_ok=True)
+        put(self.page_place, html)
+        self.say(f"{self.page} is written")
+        for text in page.reported:
+            self.say(text)
+        return page.is_whole
 
     def is_answered(self, plan: Plan) -> bool:
         """The same; says what isn't, and where a figure may be shown too early."""
