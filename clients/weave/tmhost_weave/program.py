@@ -14,6 +14,7 @@ from tmhost.version import ShowVersion
 from .cutting import LONGEST
 from .files import locked
 from tmhost_fences.troubles import Trouble
+from .places import fix_program, within
 from .targets import why_unclear
 from .weaving import Weave
 
@@ -80,10 +81,13 @@ def arguments(words: List[str]) -> argparse.Namespace:
 def run(given: argparse.Namespace, text: str) -> bool:
     if given.test:
         with tempfile.TemporaryDirectory(prefix="tmhost-weave-") as folder:
-            return Weave(text, None, folder, given.no_errors, given.longest).test(given.seconds)
+            weave = Weave(text, None, folder, given.no_errors, given.longest)
+            with within(weave.start):
+                return weave.test(given.seconds)
     with locked(os.path.realpath(text)):
         weave = Weave(text, given.output, None, given.no_errors, given.longest, given.html)
-        return weave.check() if given.check else weave.weave(given.seconds)
+        with within(weave.start):
+            return weave.check() if given.check else weave.weave(given.seconds)
 
 
 def has_succeeded(given: argparse.Namespace, text: str) -> bool:
@@ -101,6 +105,7 @@ def summary(texts: List[str], failed: List[str]) -> str:
 def main(words: List[str]) -> int:
     given = arguments(words)
     try:
+        fix_program()
         show_building()
         failed = [text for text in given.texts if not has_succeeded(given, text)]
     except KeyboardInterrupt:

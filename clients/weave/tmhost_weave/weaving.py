@@ -17,7 +17,7 @@ from .document import ERRORS_FAIL, ERRORS_WANTED, FOLD, HIDE, TEXTLESS, Document
 from .evaluation import AT_CODE, AT_START, UNTRIED, Evaluator
 from .files import new_name, put, read
 from .formulas import parts_of
-from .matter import matter_of
+from .matter import Matter, matter_of
 from .page import Page
 from .pictures import Pictures
 from .plan import Plan, Wanted
@@ -112,6 +112,8 @@ class Weave:
         self.page_place = place_of(page, self.page, kept) if page and self.page else ""
         self.data = read(self.path)
         self.document = Document(text_of(self.data))
+        self.matter = matter_of([cut_line(line)[0] for line in self.document.lines]) if self.document.sessions or page else Matter()
+        self.start = self.matter.start(self.path)  # the folder in which interpreters start
         self.fields: Dict[int, Field] = {}
         self.left_out: Dict[int, int] = {}  # how many bytes of an answer, by the number of its field
         self.plan: Optional[Plan] = None
@@ -273,8 +275,7 @@ class Weave:
             if self.page:
                 self.say(f"{self.page} isn't written, since the text isn't answered as it is meant")
             return not self.page
-        matter = matter_of([cut_line(line)[0] for line in self.document.lines])
-        page = Page(self.document, shown, self.pictures.wanted, matter, os.path.dirname(self.path))
+        page = Page(self.document, shown, self.pictures.wanted, self.matter, os.path.dirname(self.path))
         html = page.html(os.path.splitext(os.path.basename(self.path))[0])
         os.makedirs(os.path.dirname(self.page_place), exist_ok=True)
         put(self.page_place, html)
