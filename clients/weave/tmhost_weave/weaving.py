@@ -58,6 +58,15 @@ def piece_of(text: str, kind: str) -> Piece:
     return Piece(kind, text[:-1] if text.endswith("\n") else text)
 
 
+def refuse_other_bytes(data: bytes) -> None:
+    """Refuses what isn't a text in UTF-8: one in UTF-16, of which no fence is seen, or no text at all."""
+    try:
+        data.decode("utf-8")
+    except UnicodeDecodeError as error:
+        line = data.count(b"\n", 0, error.start) + 1
+        raise Trouble(f"line {line} has bytes that are no UTF-8, and no fence of a session is found: save the text as UTF-8") from None
+
+
 def first_other_line(old: bytes, new: bytes) -> int:
     pairs = zip(old.split(b"\n"), new.split(b"\n"))
     return 1 + sum(1 for _ in itertools.takewhile(lambda pair: pair[0] == pair[1], pairs))
@@ -112,6 +121,8 @@ class Weave:
         self.page_place = place_of(page, self.page, kept) if page and self.page else ""
         self.data = read(self.path)
         self.document = Document(text_of(self.data))
+        if not self.document.fences:
+            refuse_other_bytes(self.data)
         self.matter = matter_of([cut_line(line)[0] for line in self.document.lines]) if self.document.sessions or page else Matter()
         self.start = self.matter.start(self.path)  # the folder in which interpreters start
         self.fields: Dict[int, Field] = {}
