@@ -1,5 +1,6 @@
 """What standard error says: why an interpreter ended and where, what was evaluated, and what keeps a weave from its end."""
 import os
+import shutil
 import signal
 import subprocess
 import sys
@@ -173,6 +174,27 @@ class Troubles(Messages):
         self.assertRegex(str(caught.exception), r"\Ano space left for text\.sheet; (1 of 3 answers is|2 of 3 answers are) kept: make room and weave again\Z")
         self.assertEqual(self.read(), text)
         self.assertEqual(self.weave(text).count("x" * 15_000), 3)
+
+    def test_what_a_full_disk_leaves(self) -> None:
+        """Nothing that weave has made and doesn't need: of a worksheet that can't be made, of a text, a picture and a page that don't fit."""
+        self.write(f"#!/bin/sh\ntrap '' XFSZ\nulimit -f 0\nexec {PROGRAM} \"$@\"\n", self.place("limited"))
+        os.chmod(self.place("limited"), 0o755)
+        long = '<svg xmlns="http://www.w3.org/2000/svg" width="9" height="9">' + '<rect width="9" height="9"/>' * 100 + "</svg>"
+        text = self.front("a") + fences([("a", "x")])
+        self.write(text)
+        self.assertEqual(self.run_weave(TMHOST=self.place("limited")).status, 1)
+        self.assertEqual((sorted(os.listdir(self.folder)), self.read()), (["limited", "text.md"], text))
+        for code, words in (("say " + "z" * 3_000, ["--seconds=9"]), ("picture |image/svg+xml|" + long, ["--seconds=9"]), ("x", ["--html", self.place("pages/")])):
+            text = self.front("a") + fences([("a", code)])
+            self.write(text)
+            self.assertEqual(self.run_weave("--output", "-", self.text).status, 0)
+            shutil.rmtree(self.place("text.pictures"), ignore_errors=True)
+            limited = ["sh", "-c", 'ulimit -f 2; exec "$@"', "sh", *command_words(*words, self.text)]
+            done = subprocess.run(limited, capture_output=True, text=True, env=environment())
+            self.assertEqual(done.returncode, 1, done.stderr)
+            self.assertRegex(done.stderr, r"\A(.*: a: .*\n)?.*: File too large(: .*)?\n\Z")
+            self.assertEqual(sorted(os.listdir(self.folder)), ["a.log", "limited", "text.md", "text.sheet", "text.sheet.alt"])
+            self.assertEqual(self.read() == text, code != "x")
 
     def test_how_full_a_disk_is(self) -> None:
         for blocks, is_full in ((0, True), (10, True), (10_000, False)):

@@ -1,5 +1,4 @@
 """A text woven or checked, over the worksheet beside it."""
-import contextlib
 import difflib
 import itertools
 import os
@@ -15,13 +14,13 @@ from .answers import ANSWER, ERROR, FORMULA, NO_ANSWER, PICTURE, Piece, Shown
 from .cutting import LONGEST, cut
 from .document import ERRORS_FAIL, ERRORS_WANTED, FOLD, HIDE, TEXTLESS, Document
 from .evaluation import AT_CODE, AT_START, UNTRIED, Evaluator
-from .files import new_name, put, read
+from .files import new_name, put, put_in_folder, read
 from .formulas import parts_of
 from .matter import Matter, matter_of
 from .page import Page
 from .pictures import Pictures
 from .plan import Plan, Wanted
-from .sheets import AGAIN, fit, has_no_space, make, opened, sheet_path, shorten
+from .sheets import AGAIN, fit, has_no_space, make, opened, remove, sheet_path, shorten
 from .targets import page_of, place_of
 from tmhost_fences.blocks import cut as cut_line
 from tmhost_fences.targets import refuse_target
@@ -260,8 +259,7 @@ class Weave:
             sys.stdout.buffer.write(woven)
             sys.stdout.buffer.flush()
             return
-        with contextlib.suppress(FileNotFoundError):
-            os.unlink(new_name(self.target))
+        remove(new_name(self.target))
         if self.target == self.path and read(self.path) != self.data:
             raise Trouble("the text was changed meanwhile, and stays as it is; the answers are kept: weave it again")
         if not os.path.exists(self.target) or read(self.target) != woven:
@@ -288,8 +286,7 @@ class Weave:
             return not self.page
         page = Page(self.document, shown, self.pictures.wanted, self.matter, os.path.dirname(self.path))
         html = page.html(os.path.splitext(os.path.basename(self.path))[0])
-        os.makedirs(os.path.dirname(self.page_place), exist_ok=True)
-        put(self.page_place, html)
+        put_in_folder(self.page_place, html)
         self.say(f"{self.page} is written")
         for text in page.reported:
             self.say(text)
