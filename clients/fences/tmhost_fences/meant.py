@@ -1,12 +1,14 @@
 """What a word at a fence is most likely a misspelling of: a session, the language of one, a flag or an option."""
 import os
-from typing import Dict, List, Optional
+import re
+from typing import Dict, List, Optional, Sequence
 
 from .fields import language_in
 from .front import Sessions
 from .near import near
 
 COMMAND, BY_KERNEL = "tmhost-", "tmhost-jupyter"
+LIKE_A_COMMAND = re.compile(r"tm\w{2,}[-_]\w", re.IGNORECASE)
 # Other names that fences have for the languages of adapters, in lower case.
 ALIASES = {
     "bash": "sh", "coq": "coqtop", "haskell": "ghci", "ipython": "python", "ir": "R", "javascript": "node", "js": "node", "lisp": "sbcl", "macaulay2": "M2",
@@ -33,6 +35,18 @@ def languages(words: List[str]) -> List[str]:
     kernels = [word.rstrip("0123456789.-") for word in words[1:] if not word.startswith("-")] if BY_KERNEL in names else []
     adapters = [name[len(COMMAND) :] for name in names if name.startswith(COMMAND) and name != BY_KERNEL]
     return [language for language in [*adapters, *kernels, language_in(words)] if language]
+
+
+def adapter_meant(word: str, adapters: Sequence[str]) -> Optional[str]:
+    """The command of an adapter that the first word of a session is most likely a misspelling of, of those with these names: `tmhost-pyhton`, `tmhsot-gp`,
+    `tmhost-py`. What is alike in all commands doesn't count."""
+    commands = {COMMAND + name: name for name in adapters}
+    if not word.startswith(COMMAND):
+        return near(word, list(commands)) if LIKE_A_COMMAND.match(word) else None
+    name = word[len(COMMAND) :]
+    alias = next((one for one in adapters if one.lower() == known(name)), None)
+    found = None if name in adapters else alias or near(name, adapters)
+    return COMMAND + found if found else None
 
 
 def session_meant(name: str, sessions: Sessions) -> Optional[str]:

@@ -28,6 +28,13 @@ class Sessions(unittest.TestCase):
 
 
 class Meant(Case):
+    def test_an_adapter(self) -> None:
+        """Its command that is misspelt in the words of a session."""
+        for word, meant in (("tmhost-pyhton", ": is tmhost-python meant?"), ("tmhost-nothing", ""), ("tmhsot-gp", ": is tmhost-gp meant?")):
+            self.write(self.front(x=[word]) + fences([("x", "1")]))
+            done = self.run_weave()
+            self.assertEqual((done.status, done.errors.split("\n")[0]), (1, f"{self.text}: x: there is no program {word}{meant}"))
+
     def said(self, text: str) -> Tuple[int, List[str], str]:
         """The status, what is said of the text, and how it is woven."""
         self.write(text)

@@ -13,7 +13,7 @@ from tmhost.starting import doubt, never_answers, why_it_ends
 from .answers import ANSWER, ERROR, FORMULA, NO_ANSWER, PICTURE, Piece, Shown
 from .cutting import LONGEST, cut
 from .document import ERRORS_FAIL, ERRORS_WANTED, FOLD, HIDE, TEXTLESS, Document
-from .evaluation import AT_CODE, AT_START, UNTRIED, Evaluator
+from .evaluation import AT_START, UNTRIED, Evaluator
 from .files import new_name, put, put_in_folder, read
 from .formulas import parts_of
 from .matter import Matter, matter_of
@@ -22,12 +22,11 @@ from .pictures import Pictures
 from .plan import Plan, Wanted
 from .sheets import AGAIN, fit, has_no_space, make, opened, remove, sheet_path, shorten
 from .targets import page_of, place_of
+from .telling import doubt_of, later_ones, reason_of, why_nothing
 from tmhost_fences.blocks import cut as cut_line
 from tmhost_fences.targets import refuse_target
 from tmhost_fences.troubles import Trouble
 
-MOST_REPORTED = 5  # kinds of fences, in a message
-LONGEST_INFO = 40  # characters of what stands at one
 MOST_LINES = 20  # of errors, in a message
 CLEAR = "\r\x1b[K"  # takes a line of a terminal away
 LONG_RUN = re.compile("`{255,}")  # cmark counts the backquotes of a fence up to 255, so a line of more would close any
@@ -69,32 +68,6 @@ def refuse_other_bytes(data: bytes) -> None:
 def first_other_line(old: bytes, new: bytes) -> int:
     pairs = zip(old.split(b"\n"), new.split(b"\n"))
     return 1 + sum(1 for _ in itertools.takewhile(lambda pair: pair[0] == pair[1], pairs))
-
-
-def why_nothing(document: Document) -> str:
-    """What is said of a text of which no fence is evaluated: an author has most likely named a session otherwise than its fences."""
-    sessions = ", ".join(document.sessions) or "none, as `sessions: {py: [tmhost-python]}`"
-    reported = [f"{ascii(info[:LONGEST_INFO])[1:-1] or 'without a word'} ({count})" for info, count in document.others.most_common(MOST_REPORTED + 1)]
-    fences = ", ".join([*reported[:MOST_REPORTED], *([".."] if len(reported) > MOST_REPORTED else [])]) or "none"
-    what = "each fence of a session says that it is text" if document.has_texts else "no fence is of a session"
-    return f"{what}, so nothing is evaluated. Sessions in the front matter: {sessions}. Fences: {fences}"
-
-
-def reason_of(wanted: Wanted) -> Optional[str]:
-    """Why a field has no answer, with what isn't said in the text: where an interpreter ended."""
-    if wanted.end == AT_CODE and wanted.ender is wanted:
-        return "no answer: this code ended its interpreter"
-    if wanted.end == AT_CODE and wanted.ender:
-        return f"not evaluated, since at the replay of line {wanted.ender.line} that code ended the interpreter"
-    return "no answer: its interpreter ended at its start" if wanted.end == AT_START and wanted.ender is wanted else wanted.failure
-
-
-def later_ones(wanted: List[Wanted]) -> str:
-    """What is said of the fields of a session that weren't tried."""
-    first, last, name = wanted[0].line, wanted[-1].line, wanted[0].session_in_text
-    if len(wanted) == 1:
-        return f"1 later field of {name} isn't evaluated (line {first})"
-    return f"{len(wanted)} later fields of {name} aren't evaluated (lines {first} to {last})"
 
 
 class Weave:
@@ -189,7 +162,7 @@ class Weave:
             self.plan = plan = Plan(self.document, sheet.sessions, sheet.fields)
             fit(sheet, plan)
             for name in plan.words:
-                why = doubt(plan.words[name]) if plan.stale(name) else None
+                why = doubt_of(plan.words[name]) if plan.stale(name) else None
                 if why:
                     self.say(f"{plan.of(name)[0].session_in_text}: {why}")
             evaluator = Evaluator(sheet, plan, seconds, self.begun, self.late)
