@@ -102,6 +102,17 @@ class Pages(PageCase):
         self.assertIn(f"{self.text}: the picture none.png isn't in the page: No such file or directory\n", done.errors)
         self.assertIn(f"{self.text}: the picture two.txt isn't in the page: it is none of gif, jpeg, jpg, png, svg, webp\n", done.errors)
 
+    def test_pictures_as_pandoc_shows_them(self) -> None:
+        """One alone in its paragraph has its text below it, and attributes after one are none of the text."""
+        self.write("<svg/>", self.place("a.svg"))
+        self.write("![A *b*](a.svg){width=50%}\n\nx ![c](a.svg){#i .k width='30'}, ![](a.svg) {y}\n\n![](a.svg)\n\n- ![d](a.svg)\n\n![e](a.svg){width=1;x}\n")
+        self.assertEqual(self.run_weave("--html", self.page, self.text).status, 0)
+        self.assertEqual(self.body().replace("data:image/svg+xml;base64,PHN2Zy8+", "A"), (
+            '<figure><img src="A" alt="A b" style="width:50%">\n<figcaption>A <em>b</em></figcaption></figure>\n'
+            '<p>x <img src="A" alt="c" style="width:30px">, <img src="A" alt=""> {y}</p>\n<p><img src="A" alt=""></p>\n'
+            '<ul>\n<li><img src="A" alt="d"></li>\n</ul>\n<figure><img src="A" alt="e">\n<figcaption>e</figcaption></figure>\n'
+        ))
+
     @unittest.skipUnless(SETS, "there is no node, or no KaTeX")
     def test_formulas(self) -> None:
         """Those of the prose and of answers, by tmhost-typeset. What can't be set stays as its TeX, and is named."""

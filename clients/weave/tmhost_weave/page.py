@@ -13,6 +13,7 @@ from tmhost_fences.troubles import Trouble, needed
 from .answers import ERROR, FORMULA, NO_ANSWER, PICTURE, Piece, Shown
 from .document import Document
 from .dollars import DISPLAY, TEX, add_to
+from .figures import STYLE as WIDTH_OF, WITH_TEXT, add_figures
 from .files import read
 from .headings import add_names, first_heading, text_of
 from .matter import Matter
@@ -68,6 +69,7 @@ class Page:
         self._parser, self._tokens = self._parsed()
         self._title = self._title_of(matter.title)
         add_names(self._tokens)
+        add_figures(self._tokens)
         self._formulas = typeset([*formulas_in(self._title), *formulas_in(self._tokens), *self._answered()])
         self.reported += self._formulas.reported
         self.is_whole &= self._formulas.is_set
@@ -154,7 +156,9 @@ class Page:
         found = address if address.startswith("data:") else self._file_at(address)
         if found is None:
             return f'<a href="{html.escape(address)}">{html.escape(alt or address)}</a>'
-        return f'<img src="{html.escape(found)}" alt="{html.escape(alt)}"' + (f' title="{html.escape(title)}"' if title else "") + ">"
+        rest = "".join(f' {name}="{html.escape(str(value))}"' for name, value in (("title", title), ("style", token.meta.get(WIDTH_OF))) if value)
+        text = f"\n<figcaption>{self._parser.renderer.renderInline(token.children, options, env)}</figcaption>" if WITH_TEXT in token.meta else ""
+        return f'<img src="{html.escape(found)}" alt="{html.escape(alt)}"{rest}>{text}'
 
     def _file_at(self, address: str) -> Optional[str]:
         """The data of a picture of the prose; None where it isn't put into the page, which is said."""

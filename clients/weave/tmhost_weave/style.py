@@ -43,6 +43,8 @@ div.out img{display:block;background:#fff}
 .none{color:var(--warn);font-style:italic}
 .tex.display{display:block;margin:.8rem 0;overflow-x:auto;text-align:center}
 blockquote{margin:.8rem 0;padding-left:.9rem;border-left:3px solid var(--line);color:var(--dim)}
+figure{margin:1rem 0}
+figcaption{color:var(--dim);font-size:.9rem}
 table{margin:.8rem 0;border-collapse:collapse}
 th,td{padding:.2rem .7rem;border:1px solid var(--line);text-align:start}
 summary{cursor:pointer;color:var(--dim);font-size:.9rem}

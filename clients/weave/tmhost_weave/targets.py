@@ -16,7 +16,7 @@ def is_page(given: str) -> bool:
 
 def page_of(given: str, text: str) -> str:
     """The page of a text: the file that is given, or one with the text's name in the folder that is."""
-    return given if is_page(given) else os.path.join(given, os.path.splitext(os.path.basename(text))[0] + SUFFIXES[0])
+    return given if is_page(given) else os.path.join(os.path.normpath(given), os.path.splitext(os.path.basename(text))[0] + SUFFIXES[0])
 
 
 def why_unclear(given: str, texts: List[str]) -> Optional[str]:
