@@ -41,6 +41,17 @@ class Several(Case):
         done = self.run_weave("--output", self.third, self.text, self.other)
         self.assertEqual((done.status, done.errors.split("\n")[-2]), (2, "tmhost-weave: error: --output is the place of one text, and several are given"))
 
+    def test_one_worksheet_of_two(self) -> None:
+        """They are refused, but where nothing is kept."""
+        texts = [self.text, self.place("text.Rmd")]
+        for path in texts:
+            self.write(self.front("a") + fences([("a {hide}", "x")]), path)
+        for word in ("--seconds=9", "--check"):
+            done = self.run_weave(word, *texts)
+            said = f"tmhost-weave: error: several texts would have the worksheet {os.path.realpath(self.sheet)}"
+            self.assertEqual((done.status, done.errors.split("\n")[-2], self.logged("a")), (2, said, []))
+        self.assertEqual(self.run_weave("--test", *texts).status, 0)
+
     def test_an_interrupt_ends_all(self) -> None:
         self.write(self.front("a") + fences([("a", "stuck")]))
         self.write(self.front("b") + fences([("b", "x")]), self.other)

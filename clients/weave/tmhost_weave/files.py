@@ -62,5 +62,6 @@ def put_in_folder(path: str, data: bytes) -> None:
         put(path, data)
     except BaseException:
         if is_made:
-            os.rmdir(folder)
+            with contextlib.suppress(OSError):
+                os.rmdir(folder)
         raise

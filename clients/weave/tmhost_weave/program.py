@@ -15,7 +15,7 @@ from .cutting import LONGEST
 from .files import locked
 from tmhost_fences.troubles import Trouble
 from .places import fix_program, within
-from .targets import why_unclear
+from .targets import why_shared, why_unclear
 from .weaving import Weave
 
 ABOUT = "Evaluates the code in a CommonMark text, and puts each answer after its fence."
@@ -72,7 +72,7 @@ def arguments(words: List[str]) -> argparse.Namespace:
         parser.error("--check and --test write nothing, so there is no --html for them")
     if given.output is not None and len(given.texts) > 1:
         parser.error("--output is the place of one text, and several are given")
-    why = None if given.html is None else why_unclear(given.html, given.texts)
+    why = (None if given.html is None else why_unclear(given.html, given.texts)) or (None if given.test else why_shared(given.texts))
     if why:
         parser.error(why)
     return given

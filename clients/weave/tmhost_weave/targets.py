@@ -1,9 +1,11 @@
-"""Where the page of a text is written."""
+"""Where the page of a text is written, and which texts are in the way of one another."""
 import os
 from typing import Iterable, List, Optional
 
 from tmhost_fences.targets import refuse_target
 from tmhost_fences.troubles import Trouble
+
+from .sheets import sheet_path
 
 OPTION = "--html"
 SUFFIXES = (".html", ".htm")
@@ -25,9 +27,18 @@ def why_unclear(given: str, texts: List[str]) -> Optional[str]:
         return f"{OPTION} names no file"
     if len(texts) > 1 and is_page(given):
         return f"with several texts {OPTION} is a folder, and {given} is a page"
-    pages = [os.path.realpath(page_of(given, text)) for text in texts]
-    twice = next((page for page in pages if pages.count(page) > 1), None)
+    twice = found_twice([os.path.realpath(page_of(given, text)) for text in texts])
     return f"several texts would have the page {twice}" if twice else None
+
+
+def found_twice(paths: List[str]) -> Optional[str]:
+    return next((path for path in paths if paths.count(path) > 1), None)
+
+
+def why_shared(texts: List[str]) -> Optional[str]:
+    """Why these texts can't be woven in turn: of two with one worksheet each would take the answers of the other away."""
+    twice = found_twice([sheet_path(os.path.realpath(text)) for text in texts])
+    return f"several texts would have the worksheet {twice}" if twice else None
 
 
 def place_of(given: str, page: str, kept: Iterable[str]) -> str:
