@@ -159,6 +159,18 @@ class Troubles(Messages):
             weave.send_signal(signal.SIGINT)
             self.assertEqual((weave.communicate(timeout=60), weave.returncode), ((b"", b""), 130))
 
+    def test_what_is_no_utf8_and_has_no_fences(self) -> None:
+        """It is refused, in UTF-16 also with fences, which aren't seen there."""
+        text = self.front("a") + fences([("a", "x")])
+        for data, line in ((b"\xff\xfe\n", 1), (b"a\nb\r\ncaf\xe9\n", 3), (text.encode("utf-16"), 1), (b"\x89PNG\r\n\x1a\n\0", 1)):
+            with open(self.text, "wb") as file:
+                file.write(data)
+            for word in ("--seconds=9", "--check", "--test"):
+                done = self.run_weave(word, self.text)
+                said = f"{self.text}: line {line} has bytes that are no UTF-8, and no fence of a session is found: save the text as UTF-8\n"
+                self.assertEqual((done.status, done.output, done.errors), (1, "", said))
+        self.assertEqual(os.listdir(self.folder), ["text.md"])
+
     def test_a_full_disk(self) -> None:
         """A limit of the length of files is a fault of the disk, too; whether there is no space says the file system."""
         self.write("x" * 15_000, self.place("long"))

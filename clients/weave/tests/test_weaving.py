@@ -254,18 +254,6 @@ class Weaving(Case):
             self.assertEqual(self.run_weave("--output", "-", self.text).output, text)
         self.assertEqual(os.listdir(self.folder), ["text.md"])
 
-    def test_what_is_no_utf8_and_has_no_fences(self) -> None:
-        """It is refused, in UTF-16 also with fences, which aren't seen there."""
-        text = self.front("a") + fences([("a", "x")])
-        for data, line in ((b"\xff\xfe\n", 1), (b"a\nb\r\ncaf\xe9\n", 3), (text.encode("utf-16"), 1), (b"\x89PNG\r\n\x1a\n\0", 1)):
-            with open(self.text, "wb") as file:
-                file.write(data)
-            for word in ("--seconds=9", "--check", "--test"):
-                done = self.run_weave(word, self.text)
-                said = f"{self.text}: line {line} has bytes that are no UTF-8, and no fence of a session is found: save the text as UTF-8\n"
-                self.assertEqual((done.status, done.output, done.errors), (1, "", said))
-        self.assertEqual(os.listdir(self.folder), ["text.md"])
-
     def test_a_text_without_code_of_a_session_is_reported(self) -> None:
         """With what it has, since a session may have another name than its fences."""
         for text, sessions, found in (
