@@ -30,7 +30,7 @@ PAGES = {
 }
 DEFINITIONS = "DEFINITIONS.md"
 HOST = "crates/session_engine/src/host.rt"
-CALLS = ("crates/host_laws/src/made.rt", "crates/theorem/src/lib.rt", "crates/driver_visits/src/runs.rt")  # laws that make the call that they speak of
+CALLS = ("crates/host_laws/src/made.rt", "crates/theorem/src/lib.rt", "crates/driver_visits/src/runs.rt", "crates/driver_visits/src/crashed.rt", "crates/driver_visits/src/filed.rt")  # laws that make the call that they speak of
 PLACE = re.compile(r"\{(?:(?P<kind>clause \w+|law|mutant) (?P<word>\w+)|(?P<how>file |code )?(?P<module>\w+::|\w+(?:\.\w+)*\.)(?P<name>[\w']+))\}")
 
 # Definitions that the page links to in their files. What they say isn't needed: a definition that has them for words is followed by a law
@@ -68,6 +68,13 @@ EXPANDED: set[Key] = {
     ("driver_visits.Runs", "LeavesPrinted"),
     ("driver_visits.Runs", "LeavesPrefix"),
     ("driver_visits.Runs", "RunsThenOpens"),
+    ("driver_visits.Runs", "OpensCrashed"),
+    ("driver_visits.Runs", "OpensAfterCrash"),
+    ("driver_visits.Runs", "RunsThenCrashes"),
+    ("driver_visits.Filed", "EarlierUses"),
+    ("driver_visits.Filed", "LedTo"),
+    ("driver_visits.Filed", "LeavesAnswers"),
+    ("driver_visits.Filed", "AcceptsThenOpens"),
     ("driver_visits.Acceptances", "AtMostOneMore"),
     ("driver_visits.Acceptances", "LeftByAcceptance"),
     ("driver_visits.Acceptances", "closing_after"),

@@ -151,6 +151,12 @@ class Front(unittest.TestCase):
         with self.assertRaisesRegex(Trouble, "no mapping of names, as in `sessions: {py"):
             front_of(["---", "sessions: [a]", "---"])
 
+    def test_words_with_a_space(self) -> None:
+        self.assertEqual(front_of(["---", "sessions: {a: tmhost-gp -q}", "---"]).sessions, {"a": ("tmhost-gp", "-q")})
+        for words, meant in (("[gp -q]", "gp, -q"), ("['gp  -q ']", "gp, -q"), ("[a, b c]", "b, c")):
+            with self.assertRaisesRegex(Trouble, rf"\Athe session a has a word with a space, '.*': write \[{meant}\]\Z"):
+                front_of(["---", f"sessions: {{a: {words}}}", "---"])
+
     def test_whether_fences_are_whole(self) -> None:
         given: List[List[str]] = [[], ["fences: whole"]]
         self.assertEqual([front_of(["---", "sessions: {a: b}", *more, "---"]).is_whole for more in given], [False, True])

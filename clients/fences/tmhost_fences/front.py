@@ -3,7 +3,8 @@ import dataclasses
 import re
 from typing import Any, Dict, Iterable, List, Optional, Sequence, Tuple
 
-from .near import near
+from tmhost.near import near
+
 from .troubles import Trouble, needed
 
 NAME = re.compile(r"[A-Za-z0-9_]{1,20}", re.ASCII)  # without a hyphen: names of the worksheet's own have one
@@ -121,6 +122,8 @@ def words_in(yaml: Any, name: str, node: Any) -> Tuple[str, ...]:
     if not 1 <= len(words) <= MOST_WORDS:
         raise Trouble(f"the session {name} has {len(words)} words: it must be 1 to {MOST_WORDS}")
     for word in words:
+        if word.split() != [word] and WORD.fullmatch("".join(word.split())):
+            raise Trouble(f"the session {name} has a word with a space, {ascii(word)[:80]}: write [{', '.join(word.split())[:80]}]")
         if not WORD.fullmatch(word) or len(word.encode("utf-8")) > LONGEST_WORD:
             raise Trouble(f"the session {name} can't have the word {ascii(word)[:80]}: it has 1 to 1,024 bytes and no space")
     return words

@@ -1,14 +1,14 @@
 """What a word at a fence is most likely a misspelling of: a session, the language of one, a flag or an option."""
 import os
-import re
-from typing import Dict, List, Optional, Sequence
+from typing import Dict, List, Optional
+
+from tmhost.near import near
+from tmhost.starting import ADAPTERS, COMMAND, adapter_meant
 
 from .fields import language_in
 from .front import Sessions
-from .near import near
 
-COMMAND, BY_KERNEL = "tmhost-", "tmhost-jupyter"
-LIKE_A_COMMAND = re.compile(r"tm\w{2,}[-_]\w", re.IGNORECASE)
+BY_KERNEL = "tmhost-jupyter"
 # Other names that fences have for the languages of adapters, in lower case.
 ALIASES = {
     "bash": "sh", "coq": "coqtop", "haskell": "ghci", "ipython": "python", "ir": "R", "javascript": "node", "js": "node", "lisp": "sbcl", "macaulay2": "M2",
@@ -37,21 +37,19 @@ def languages(words: List[str]) -> List[str]:
     return [language for language in [*adapters, *kernels, language_in(words)] if language]
 
 
-def adapter_meant(word: str, adapters: Sequence[str]) -> Optional[str]:
-    """The command of an adapter that the first word of a session is most likely a misspelling of, of those with these names: `tmhost-pyhton`, `tmhsot-gp`,
-    `tmhost-py`. What is alike in all commands doesn't count."""
-    commands = {COMMAND + name: name for name in adapters}
-    if not word.startswith(COMMAND):
-        return near(word, list(commands)) if LIKE_A_COMMAND.match(word) else None
-    name = word[len(COMMAND) :]
-    alias = next((one for one in adapters if one.lower() == known(name)), None)
-    found = None if name in adapters else alias or near(name, adapters)
-    return COMMAND + found if found else None
+def without_command(name: str) -> str:
+    """The language of an adapter's name, also where that is misspelt; another name as it is."""
+    adapter = name if name in ADAPTERS else adapter_meant(name) if name.startswith(COMMAND) else None
+    return adapter.split()[0][len(COMMAND) :] if adapter else name
 
 
 def session_meant(name: str, sessions: Sessions) -> Optional[str]:
     """The session that a fence with this name is most likely meant for: one whose interpreter has this language, or one whose name or language is a letter
     or two away."""
+    if without_command(name) != name:
+        name = without_command(name)
+        if name in sessions:
+            return name
     by_language: Dict[str, str] = {}
     for session, words in sessions.items():
         for language in languages(list(words)):

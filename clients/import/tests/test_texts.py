@@ -203,9 +203,16 @@ class Front(Case):
         for front in ("---\ntitle: sessions\n---\n", "---\nsessions:\n---\n", "text\n\n---\nsessions: {mine: [a]}\n---\n", "---\nsessions: {mine: [a]}\n"):
             self.assertEqual([line for line in self.first(front, "--no-prose") if line.startswith("new")], ["new 0 sh y"], front)
 
+    @needs_markdown_it
+    def test_front_matter_that_is_misspelt(self) -> None:
+        """A mapping by a name that is nearly `sessions` is refused, as weave and suite refuse it. Another value of such a name is its own."""
+        for key in ("session", "Sessions", "sesions"):
+            self.refused(f"---\n{key}: {{py: [tmhost-python]}}\n---\n```py\n1\n```\n", f"the front matter has '{key}': is sessions meant?", form="markdown")
+        self.assertEqual(self.inputs("---\nsession: 3\n---\n```python\n1\n```\n", form="markdown"), [("python", "1")])
+
     def test_front_matter_that_is_wrong(self) -> None:
         for sessions, said in (
-            ("{", "no YAML"), ("{mine: {a: b}}", "no list of words"), ("{mine: []}", "it must be 1 to 16"), ("{mine: [a b]}", "no space"), ("[a]", "no mapping of names"),
+            ("{", "no YAML"), ("{mine: {a: b}}", "no list of words"), ("{mine: []}", "it must be 1 to 16"), ("{mine: [a b]}", "the session mine has a word with a space, 'a b': write [a, b]"), ("[a]", "no mapping of names"),
             ("{a-b: [x]}", "can't have the name 'a-b'"),
         ):
             self.refused(f"---\nsessions: {sessions}\n---\n```mine\nx\n```\n", said, form="markdown")

@@ -4,7 +4,7 @@ import re
 
 from tmhost_fences.blocks import Block, blocks_of
 from tmhost_fences.front import Sessions as Words
-from tmhost_fences.front import front_of, matter_end
+from tmhost_fences.front import KEY_OF_MAPPING, SESSIONS, front_of, matter_end, sessions_meant, why_misspelt
 from tmhost_fences.troubles import Trouble
 
 from .cells import Cell, Document, plain, prose_cell
@@ -55,6 +55,9 @@ class Reader:
     def __init__(self, text: str, given: Words, has_prose: bool, has_chunks: bool) -> None:
         self.lines, self.has_prose, self.has_chunks = lines_of(text), has_prose, has_chunks
         front = front_of(self.lines)
+        meant = sessions_meant(self.lines, KEY_OF_MAPPING)
+        if meant:
+            raise Trouble(why_misspelt(meant, SESSIONS))
         self.is_whole = front.is_whole
         self.document = Document(words=front.sessions)
         self.sessions = Sessions({**front.sessions, **given}, True)

@@ -61,14 +61,13 @@ class Second(Case):
 
     def test_what_is_no_worksheet(self) -> None:
         for name, hint in (
-            ("text.md", "for a Markdown text use tmhost-weave or tmhost-import"), ("a.Rmd", "for a Markdown text use tmhost-weave or tmhost-import"),
-            ("a.ipynb", "tmhost-import makes one of it"), ("sheet", ""),
+            ("text.md", "; for a Markdown text use tmhost-weave or tmhost-import"), ("a.Rmd", "; for a Markdown text use tmhost-weave or tmhost-import"),
+            ("a.ipynb", "; tmhost-import makes one of it"), ("sheet", ", or it was cut or is empty; look at the path"),
         ):
             path = os.path.join(self.folder, name)
             with open(path, "w", encoding="ascii") as file:
                 file.write("# This is no worksheet at all\n")
-            why = f"is no worksheet; {hint}" if hint else "can't be opened: fault 31 NotASheet: it is no worksheet, or it was cut or is empty; look at the path"
-            self.assertEqual(self.said(path), (1, f"tmhost-notebook: {path} {why}"))
+            self.assertEqual(self.said(path), (1, f"tmhost-notebook: {path} can't be opened: fault 31 NotASheet: it is no worksheet{hint}"))
 
     def test_the_version(self) -> None:
         said = subprocess.run([PROGRAM or "", "--version"], stdout=subprocess.PIPE, text=True, check=True).stdout

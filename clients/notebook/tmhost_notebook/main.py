@@ -26,13 +26,6 @@ from .running import running
 from .server import Server, served
 from .shelf import Alone, Shelf
 
-NOT_A_SHEET = 31
-# What makes a worksheet, or the like, of a file by the end of its name.
-BY_END = {
-    **dict.fromkeys((".md", ".markdown", ".rmd", ".qmd"), "for a Markdown text use tmhost-weave or tmhost-import"),
-    **dict.fromkeys((".ipynb", ".org", ".tm"), "tmhost-import makes one of it"),
-}
-
 
 def words() -> argparse.ArgumentParser:
     parser = argparse.ArgumentParser(
@@ -69,9 +62,6 @@ def why_in_use(path: str) -> str:
 
 def why_not(path: str, error: Exception) -> str:
     """Why a worksheet can't be opened."""
-    hint = BY_END.get(os.path.splitext(path)[1].lower())
-    if hint and isinstance(error, Died) and error.number == NOT_A_SHEET:
-        return f"{path} is no worksheet; {hint}"
     return f"{path} can't be opened: {reason(error, path)}"
 
 

@@ -83,6 +83,13 @@ class Real(Case):
             self.assertEqual(self.said(), start + "look at the path")
             self.assertEqual(self.said("weave again"), f"{start}where nobody needs them, remove {self.path} and {self.second} and weave again")
 
+    def test_a_file_that_another_client_takes(self) -> None:
+        for name, taken_by in (("a.md", "for a Markdown text use tmhost-weave or tmhost-import"), ("a.Rmd", "for a Markdown text use tmhost-weave or tmhost-import"), ("a.ipynb", "tmhost-import makes one of it")):
+            self.path = os.path.join(self.folder, name)
+            with open(self.path, "w", encoding="ascii") as file:
+                file.write("# No worksheet at all\n")
+            self.assertEqual(self.said(), f"{self.path}: fault 31 NotASheet: it is no worksheet; {taken_by}")
+
     def test_what_cannot_be_opened(self) -> None:
         """What is said is what keeps it from being opened, as it opens when that is undone."""
         kept = self.path + ".kept"

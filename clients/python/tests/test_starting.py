@@ -97,6 +97,16 @@ class Sessions(unittest.TestCase):
         self.assertIsNone(self.doubt("tmhost-mine", "tmhost-mine"))
         self.assertEqual(self.doubt(""), "there is no program ")
 
+    def test_a_misspelt_adapter(self) -> None:
+        """Capitals, letters in another order, a letter or two of a longer name, and the name of its interpreter or of another one of it."""
+        for word, meant in (
+            ("tmhost-pg", "tmhost-gp"), ("tmhost-r", "tmhost-R"), ("tmhost-pyhton", "tmhost-python"), ("tmhost-octav", "tmhost-octave"), ("tmhost-bash", "tmhost-sh"),
+            ("tmhost-python3", "tmhost-python"), ("tmhost-jupiter", "tmhost-jupyter"), ("tmhost-julia", "tmhost-jupyter KERNEL"), ("tmhots-python", "tmhost-python"), ("tmhost_gp", "tmhost-gp"),
+        ):
+            self.assertEqual(self.doubt(word + " --x"), f"there is no program {word}: is {meant} meant?")
+        for word in ("tmhost-mine", "tmhost-xy", "./tmhost-pg", "mine", "tmhost-gp", "python9"):
+            self.assertEqual(self.doubt(word), f"there is no program {word}")
+
     def test_an_interpreter_without_its_adapter(self) -> None:
         for words, adapter in (("python3", "python"), ("/bin/sh", "sh"), ("gp", "gp"), ("octave", "octave"), ("R", "R"), ("lua5.4", "lua"), ("tclsh8.6", "tcl"), ("guile-3.0", "guile"), ("python3.11", "python")):
             said = self.doubt(words, words)

@@ -36,6 +36,11 @@ OF_A_CACHE: Dict[int, str] = {
     DAMAGED: "it can't be read from byte {at} on; remove {path} and {path}.alt and {again}: the answers in them are lost",
     NOT_A_SHEET: "it is no worksheet, or it was cut or is empty; where nobody needs them, remove {path} and {path}.alt and {again}",
 }
+# By the ending of a file that is no worksheet: what takes it.
+BY_END = {
+    **dict.fromkeys((".md", ".markdown", ".rmd", ".qmd"), "for a Markdown text use tmhost-weave or tmhost-import"),
+    **dict.fromkeys((".ipynb", ".org", ".tm"), "tmhost-import makes one of it"),
+}
 UNSEEN = "it can't be opened, read or written; look at the path, at who may write there, and for room on the disk"
 
 
@@ -50,6 +55,9 @@ def reason(error: BaseException, path: str, again: Optional[str] = None) -> str:
         return plain(error)
     at = "" if error.offset is None else f" at {error.offset}"
     advice = {**ADVICE, **(OF_A_CACHE if again else {})}[error.number or 0]
+    taken_by = BY_END.get(os.path.splitext(path)[1].lower())
+    if error.number == NOT_A_SHEET and taken_by:
+        advice = "it is no worksheet; " + taken_by
     cause = cause_of(path) if error.number == DISK else None
     return f"fault {error.number} {error.fault}{at}: " + advice.format(path=path, at=error.offset, again=again, cause=cause or UNSEEN)
 

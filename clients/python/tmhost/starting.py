@@ -10,6 +10,7 @@ import tempfile
 import time
 from typing import Dict, List, Optional, Sequence, Tuple
 
+from .near import near
 from .program import ROOT, search_path
 from .values import CONTROL
 
@@ -22,6 +23,8 @@ PROGRAMS: Dict[str, Tuple[str, str]] = {
     "python": ("python3", "python3"), "ruby": ("ruby", "ruby"), "sbcl": ("sbcl", "sbcl"), "sh": ("bash", "bash"), "singular": ("Singular", "singular"),
     "sqlite3": ("sqlite3", "sqlite3"), "swipl": ("swipl", "swi-prolog-nox"), "tcl": ("tclsh", "tcl"), "yacas": ("yacas", "yacas"),
 }
+JUPYTER = "jupyter"
+ADAPTERS = [COMMAND + name for name in (*PROGRAMS, JUPYTER)]
 # Other names under which these programs are started.
 OTHER_NAMES = {"python": "python", "ipython": "python", "octave": "octave", "sh": "sh", "nodejs": "node", "irb": "ruby"}
 # Interpreters that an adapter starts by the name of a kernel.
@@ -52,12 +55,26 @@ def missing_program(words: Sequence[str]) -> Optional[Tuple[str, str]]:
     """The program that isn't here of those that the words of a session start, and what is to be said of it; None where none is known to be missing."""
     word = words[0] if words else ""
     if not is_found(word):
-        return word, f"there is no program {word}"
+        meant = adapter_meant(word)
+        return word, f"there is no program {word}" + (f": is {meant} meant?" if meant else "")
     name = os.path.basename(word)
     program, package = PROGRAMS.get(name[len(COMMAND) :], ("", "")) if name.startswith(COMMAND) else ("", "")
     if not program or is_found(program):
         return None
     return program, f"there is no program {program}, which {name} starts (Debian's package {package})"
+
+
+def adapter_meant(word: str) -> Optional[str]:
+    """The words of the adapter that is most likely meant by a word which is no program: of a name of its interpreter, or of one in which letters are
+    wrong. Of a short name these are capitals, or stand in another order."""
+    if "/" in word or word in ADAPTERS:
+        return None
+    if not word.startswith(COMMAND):
+        return near(word, ADAPTERS)
+    name = word[len(COMMAND) :]
+    swapped = next((one for one in PROGRAMS if sorted(one.lower()) == sorted(name.lower())), None)
+    found = swapped or near(name, [*PROGRAMS, JUPYTER])
+    return COMMAND + found if found else adapter_words(name)
 
 
 def adapter_of(name: str) -> Optional[str]:

@@ -2,7 +2,9 @@
 import os
 from typing import List, Tuple
 
-from .support import Case, case
+from .support import PROGRAM, Case, case
+from tested import fields_of
+from tmhost import Worksheet
 
 
 class Damaged(Case):
@@ -38,6 +40,21 @@ class Damaged(Case):
             os.truncate(self.sheet, size)
             remove = f"remove {self.sheet} and {self.sheet}.alt and run the suite again"
             self.refused(f"fault 31 NotASheet: it is no worksheet, or it was cut or is empty; where nobody needs them, {remove}")
+
+    def test_a_worksheet_of_somebody_else(self) -> None:
+        """It isn't taken for one of a run, and stays."""
+        for name in (self.sheet, self.sheet + ".alt"):
+            os.unlink(name)
+        with Worksheet(self.sheet, create=True, program=PROGRAM) as sheet:
+            sheet.session("mine", ["cat"])
+            sheet.new("mine", "kept")
+        given: Tuple[List[str], ...] = ([], ["--resume"])
+        for words in given:
+            ran = self.run_suite(self.path, *words)
+            said = f"tmhost-suite: {self.path}: {self.sheet} is a worksheet, but not one of tmhost-suite: it stays as it is; move it away, or give --runs FOLDER\n"
+            self.assertEqual((ran.status, ran.errors, self.log("a")), (1, said, []))
+        self.assertEqual([field.input for field in fields_of(self.sheet)], ["kept"])
+        self.assertEqual(self.verdicts(self.path, "--runs", self.place("runs")), ["differs", "ok"])
 
     def test_one_that_cannot_be_opened(self) -> None:
         os.link(self.sheet, self.place("kept"))

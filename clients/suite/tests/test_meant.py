@@ -7,6 +7,45 @@ from tmhost_suite import program
 from tmhost_suite.telling import standard
 
 
+NONE = "tmhost-suite: no case is one of those that are to be run"
+
+
+class Chosen(Case):
+    def test_what_there_is_where_only_names_none(self) -> None:
+        """Of many cases the nearest ones are listed, in their order."""
+        other = self.place("other.md")
+        self.write(*(case(f"say {at}", str(at)) for at in range(30)), case("wait 1", "1"))
+        self.write(case("say x", "x", "b"), path=other)
+        ran = self.run_suite(self.path, other, "--only", "wait 2")
+        lines = ran.errors.splitlines()
+        self.assertEqual((ran.status, lines[0], lines[-1], len(lines)), (1, f"{NONE}: none has the line or the first line wait 2; there are", "  and 12 others", 22))
+        self.assertIn(f"  {self.path}:{self.read().split(chr(10)).index('wait 1')} wait 1", lines)
+        self.assertEqual(sorted(lines[1:-1], key=lambda line: int(line.split(":")[1].split()[0]) + (other in line) * 10_000), lines[1:-1])
+
+    def test_the_tags_that_there_are(self) -> None:
+        self.write(case("say 1", "1", "a {tags slow, net}"), case("say 2", "2", "a {tags quick}"), case("say 3", "3"))
+        for words, said in (
+            (("--tags", "none"), ": --tags none; their tags are net, quick, slow"), (("--tags", "quick", "--only", "say 1"), ": --tags quick; their tags are net, slow"),
+            (("--tags", "quick", "--only", "say 3"), ": --tags quick; they have no tags"),
+        ):
+            ran = self.run_suite(self.path, *words)
+            self.assertEqual((ran.status, ran.errors), (1, f"{NONE}{said}\n"))
+
+
+class Programs(Case):
+    def test_a_misspelt_program(self) -> None:
+        """Its session is named with the adapter that is meant, and words with a space are refused with those that are meant."""
+        self.write(case("say 1", "1", "c"))
+        text = self.read()
+        self.make_file("suite.md", text.replace("sessions:\n", "sessions:\n  c: [tmhost-pg]\n"))
+        ran = self.run_suite(self.path)
+        self.assertEqual(ran.status, 1)
+        self.assertIn("there is no program tmhost-pg: is tmhost-gp meant?", ran.output + ran.errors)
+        self.make_file("suite.md", text.replace("sessions:\n", "sessions:\n  c: [gp -q]\n"))
+        ran = self.run_suite(self.path)
+        self.assertEqual((ran.status, ran.errors), (1, f"tmhost-suite: {self.path}: the session c has a word with a space, 'gp -q': write [gp, -q]\n"))
+
+
 class Keys(Case):
     def test_a_misspelt_key(self) -> None:
         """Its suite isn't run, and another one is. Before that, each case was compared without the rule."""

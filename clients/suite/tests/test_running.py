@@ -321,7 +321,7 @@ class Chosen(Case):
         self.write(case("say 1", "1"))
         ran = self.run_suite(self.path, "--only", "other")
         self.assertEqual(ran.status, 1)
-        self.assertIn("no case is one of those that are to be run", ran.errors)
+        self.assertEqual(ran.errors, f"tmhost-suite: no case is one of those that are to be run: none has the line or the first line other; there are\n  {self.path}:7 say 1\n")
 
     def test_a_text_without_a_case_is_no_success(self) -> None:
         self.write(case("say x", info="other"))

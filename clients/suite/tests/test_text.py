@@ -31,6 +31,12 @@ class Reading(unittest.TestCase):
         self.assertEqual(self.doubts("```python\nx\n```\n\n```json\n1\n```\n", front), ["line 4: 'python' is no session (py, a): is py meant?"])
         self.assertEqual(self.doubts("```py\nx\n```\n", front.replace("py:", "python:")), ["line 4: 'py' is no session (python, a): is python meant?"])
 
+    def test_a_fence_with_the_word_of_an_adapter(self) -> None:
+        front = "---\nsessions: {gp: [tmhost-gp], py: [tmhost-python]}\n---\n"
+        for name, meant in (("tmhost-gp", "gp"), ("tmhost-pg", "gp"), ("tmhost-python", "py")):
+            self.assertEqual(self.doubts(f"```{name}\n1\n```\n", front), [f"line 4: '{name}' is no session (gp, py): is {meant} meant?"])
+        self.assertEqual(len(read("```gp\n1\n```\n\n```tmhost-answer\n1\n```\n\n```tmhost-error\n1\n```\n", front).cases), 1)
+
     def test_a_fence_that_is_misspelt(self) -> None:
         """Otherwise its test would be lost, and nobody would hear of it."""
         front = "---\nsessions: {gp: [x], py: [y]}\n---\n"

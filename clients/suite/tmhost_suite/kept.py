@@ -216,7 +216,10 @@ def begin(path: str, suite: Suite) -> Kept:
         raise Trouble(f"its {notes:,} cases with {fields:,} fields are more than {MOST:,} in all, which a run can keep: make two suites of it")
     sheet = opened_or_none(path, suite.path)  # so that the worksheet of a run that goes on isn't taken away
     if sheet is not None:
+        is_own = NOTES in sheet.sessions or not (sheet.sessions or sheet.cells)
         sheet.close()
+        if not is_own:
+            raise Trouble(f"{path} is a worksheet, but not one of tmhost-suite: it stays as it is; move it away, or give --runs FOLDER")
     remove(path)
     make(path)
     sheet = opened(path, suite.path, suite)

@@ -4,8 +4,8 @@ import shlex
 from decimal import Decimal
 from typing import Callable, Dict, Iterator, Optional, Tuple
 
+from tmhost.near import near
 from tmhost_fences.info import LITERAL, NO
-from tmhost_fences.near import near
 from tmhost_fences.troubles import Trouble
 
 from .cases import Marks

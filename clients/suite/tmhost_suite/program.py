@@ -1,7 +1,6 @@
 """The command line of tmhost-suite."""
 import argparse
 import contextlib
-import fnmatch
 import os
 import random
 import re
@@ -9,7 +8,7 @@ import sys
 import threading
 import time
 from concurrent.futures import ThreadPoolExecutor
-from typing import Callable, Dict, Iterator, List, NamedTuple, Optional, Tuple
+from typing import Dict, Iterator, List, NamedTuple, Optional, Tuple
 
 from tmhost import Died, TmhostError, Worksheet
 from tmhost.program import show_building
@@ -20,7 +19,8 @@ from tmhost_fences.troubles import Trouble
 
 from . import kept as worksheets
 from . import reports
-from .cases import Case, Suite
+from .cases import Suite
+from .choosing import chooser, why_none
 from .kept import PASSED
 from .marks import seconds
 from .reports import FORMATS, Reported, reported_of
@@ -88,23 +88,6 @@ def arguments(words: List[str]) -> argparse.Namespace:
     if given.resume and given.rerun:
         parser.error("--resume goes on with a run, and --rerun begins one")
     return given
-
-
-def chooser(given: argparse.Namespace, path: str) -> Callable[[int, Case], bool]:
-    """Which cases of a suite are run."""
-    tags = frozenset(re.split(r"[\s,]+", given.tags)) if given.tags else None
-    last = worksheets.last_failed(worksheets.sheet_path(path, given.runs), path) if given.rerun else None
-    failed = None if last is None else frozenset(last)
-
-    def is_chosen(at: int, case: Case) -> bool:
-        names = (str(case.line), case.title)
-        return not case.is_own and (
-            (given.only is None or any(fnmatch.fnmatchcase(name, given.only) for name in names))
-            and (tags is None or bool(tags & case.marks.tags))
-            and (failed is None or case.digest in failed)
-        )
-
-    return is_chosen
 
 
 Read = Tuple[Suite, Optional[Text]]
@@ -209,7 +192,7 @@ class Runner:
             for line in trouble.why.split("\n"):
                 print(f"tmhost-suite: {trouble.path}: {cut(line)}", file=sys.stderr)
         if not self.chosen and parts == 1 and (self.given.only or self.given.tags):
-            raise Trouble("no case is one of those that are to be run")
+            raise Trouble(why_none(self.given, [suite for suite, _ in suites]))
         return not self.troubles and all(one.verdict in PASSED or one.verdict == "out" for one in reported)
 
     def _paths(self) -> List[str]:

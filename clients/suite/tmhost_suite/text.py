@@ -6,12 +6,12 @@ import re
 from decimal import Decimal
 from typing import Any, Dict, FrozenSet, List, Optional, Sequence, Tuple
 
+from tmhost.near import near
 from tmhost_fences.blocks import LINE, Block, blocks_of, cut
 from tmhost_fences.fields import groups, language_in, whole
 from tmhost_fences.front import KEY_OF_MAPPING, SESSIONS, Sessions, front_of, matter_end, refuse_misspelt, sessions_meant, why_misspelt
 from tmhost_fences.info import LITERAL, info_of
 from tmhost_fences.meant import OTHERS, session_meant
-from tmhost_fences.near import near
 from tmhost_fences.troubles import Trouble, needed
 
 from .cases import Case, Suite

@@ -16,7 +16,7 @@ INTERPRETER = os.path.join(HERE, "interpreter.py")
 FENCED = re.compile(r"^```tmhost-answer\n(.*?)\n```$", re.MULTILINE | re.DOTALL)
 
 sys.path[:0] = [os.path.dirname(HERE), *(os.path.join(ROOT, "clients", name) for name in ("", "python", "fences", "notebook"))]
-from tested import PROGRAM as PROGRAM, WHY, InFolder, children_of as children_of  # noqa: E402
+from tested import PROGRAM as PROGRAM, WHY, InFolder, children_of as children_of, heed_interrupts as heed_interrupts  # noqa: E402
 
 
 class Outcome(NamedTuple):

@@ -54,6 +54,16 @@ class Damaged(Case):
         os.rename(kept, self.sheet)
         self.assertEqual(self.weave(self.woven), self.woven)
 
+    def test_a_second_file_alone(self) -> None:
+        """It may have all answers, so it isn't written over. Removed, all is evaluated again."""
+        os.unlink(self.sheet)
+        self.write("something", self.second)
+        said = f"{self.second} is there without {self.sheet}, to which it belongs; put that back, or remove {self.second} and weave again: its answers are lost then"
+        self.assertEqual(self.refused(), said)
+        self.assertEqual(self.read(self.second), "something")
+        os.unlink(self.second)
+        self.assertEqual(self.weave(self.woven), self.woven)
+
     def test_one_in_use(self) -> None:
         with subprocess.Popen([PROGRAM, "live", self.sheet], stdin=subprocess.PIPE, stdout=subprocess.PIPE) as other:
             assert other.stdin and other.stdout

@@ -19,8 +19,8 @@ class Sessions(unittest.TestCase):
         }
         for name, meant in (
             ("python", "py"), ("Python", "py"), ("python3", "py"), ("ipython", "py"), ("pyhton", "py"), ("pythn", "py"), ("PY", "py"), ("R", "r"), ("sh", "shell"),
-            ("bash", "shell"), ("javascript", "js"), ("julia", "ju"), ("jula", "ju"), ("gpp", "gp"), ("maxma", "maxima"), ("shll", "shell"),
-            ("json", None), ("text", None), ("c", None), ("go", None), ("", None), ("sage", None), ("jsx", None), ("latex", None), ("tmhost-answer", None),
+            ("bash", "shell"), ("tmhost-gp", "gp"), ("tmhost-pg", "gp"), ("tmhost-pyhton", "py"), ("tmhost-bash", "shell"), ("javascript", "js"), ("julia", "ju"), ("jula", "ju"), ("gpp", "gp"), ("maxma", "maxima"), ("shll", "shell"),
+            ("json", None), ("text", None), ("c", None), ("go", None), ("", None), ("sage", None), ("jsx", None), ("latex", None), ("tmhost-answer", None), ("tmhost-error", None), ("tmhost-no-answer", None), ("tmhost-lua", None), ("tmhost-mine", None),
         ):
             self.assertEqual(session_meant(name, sessions), meant, name)
         for name in ("python", "json", "sh", "text", "mine", "test"):
@@ -28,13 +28,6 @@ class Sessions(unittest.TestCase):
 
 
 class Meant(Case):
-    def test_an_adapter(self) -> None:
-        """Its command that is misspelt in the words of a session."""
-        for word, meant in (("tmhost-pyhton", ": is tmhost-python meant?"), ("tmhost-nothing", ""), ("tmhsot-gp", ": is tmhost-gp meant?")):
-            self.write(self.front(x=[word]) + fences([("x", "1")]))
-            done = self.run_weave()
-            self.assertEqual((done.status, done.errors.split("\n")[0]), (1, f"{self.text}: x: there is no program {word}{meant}"))
-
     def said(self, text: str) -> Tuple[int, List[str], str]:
         """The status, what is said of the text, and how it is woven."""
         self.write(text)
@@ -43,6 +36,29 @@ class Meant(Case):
 
     def sessions(self) -> str:
         return self.front("a", py=["tmhost-python"])
+
+    def test_a_misspelt_program(self) -> None:
+        status, said, _ = self.said(self.front(gp=["tmhost-pg"]) + fences([("gp", "x")]))
+        self.assertEqual((status, said[0]), (1, "gp: there is no program tmhost-pg: is tmhost-gp meant?"))
+        status, said, woven = self.said(self.front(gp=["gp -q"]) + fences([("gp", "x")]))
+        self.assertEqual((status, said), (1, ["the session gp has a word with a space, 'gp -q': write [gp, -q]"]))
+
+    def test_a_plain_fence_of_an_rmd(self) -> None:
+        """As the page's table "From knitr" says: a session's name counts, and no ending of the file."""
+        for name in ("text.Rmd", "text.md"):
+            self.text, self.sheet = self.place(name), self.place("text.sheet")
+            given = fences([("python", "x"), ("{python}", "y"), ("python {literal}", "z")])
+            status, said, woven = self.said(self.front("python") + given)
+            self.assertEqual((status, said, self.logged("python")), (0, ["python: 2 evaluated"], ["x", "y"]), name)
+            self.assertIn("```python\nx\n```\n\n```tmhost-answer\n", woven)
+            os.unlink(self.sheet)
+            given = self.sessions() + fences([("a", "x"), ("python", "x")])
+            line = given.split("\n").index("```python") + 1
+            status, said, woven = self.said(given)
+            self.assertEqual((status, said[0], len(answers(woven))), (1, f"line {line}: {NONE.format('python', 'py', 'python {literal}')}", 1))
+            os.unlink(self.sheet)
+            self.assertEqual(self.said(self.front("a") + fences([("a", "x"), ("python", "x")]))[:2], (0, ["a: 1 evaluated"]))
+            os.unlink(self.sheet)
 
     def test_fences_near_to_sessions(self) -> None:
         """With --check and --test, too. What says that it is text is text, and so is another language."""

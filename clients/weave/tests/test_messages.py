@@ -8,7 +8,7 @@ import time
 from typing import List, Optional, Tuple
 from unittest import mock
 
-from .support import COMMAND, PROGRAM, ROOT, Case, answers, command_words, environment, fences
+from .support import COMMAND, PROGRAM, ROOT, Case, answers, command_words, environment, fences, heed_interrupts
 
 from tmhost_fences.troubles import Trouble
 from tmhost_weave import sheets
@@ -118,7 +118,7 @@ class Troubles(Messages):
 
     def interrupted(self, *words: str, until: Optional[str] = None, after: float = 0.0) -> Tuple[int, str]:
         """The status and what is said where it is interrupted when a line has come, or after some seconds."""
-        with subprocess.Popen(command_words(*words, self.text), env=environment(), stderr=subprocess.PIPE, stdout=subprocess.PIPE, text=True) as weave:
+        with subprocess.Popen(command_words(*words, self.text), env=environment(), stderr=subprocess.PIPE, stdout=subprocess.PIPE, text=True, preexec_fn=heed_interrupts) as weave:
             while until and (not os.path.exists(self.place("a.log")) or until not in self.read(self.place("a.log"))):
                 time.sleep(0.02)
             time.sleep(after)
@@ -153,7 +153,7 @@ class Troubles(Messages):
         with open(COMMAND, encoding="utf-8") as file:
             code = file.read()
         self.write(code.replace("import tmhost_fences.python", f"sys.path.insert(0, {self.folder!r})\nimport signal_test_waits\nimport tmhost_fences.python"), self.place("copy"))
-        with subprocess.Popen([sys.executable, "-B", self.place("copy")], cwd=self.folder, stderr=subprocess.PIPE, stdout=subprocess.PIPE) as weave:
+        with subprocess.Popen([sys.executable, "-B", self.place("copy")], cwd=self.folder, stderr=subprocess.PIPE, stdout=subprocess.PIPE, preexec_fn=heed_interrupts) as weave:
             while not os.path.exists(self.place("a.log")):
                 time.sleep(0.02)
             weave.send_signal(signal.SIGINT)

@@ -4,7 +4,7 @@ import signal
 import subprocess
 import time
 
-from .support import Case, command_words, environment, fences
+from .support import Case, command_words, environment, fences, heed_interrupts
 
 
 class Several(Case):
@@ -55,7 +55,7 @@ class Several(Case):
     def test_an_interrupt_ends_all(self) -> None:
         self.write(self.front("a") + fences([("a", "stuck")]))
         self.write(self.front("b") + fences([("b", "x")]), self.other)
-        with subprocess.Popen(command_words(self.text, self.other), stderr=subprocess.PIPE, env=environment(), start_new_session=True) as weave:
+        with subprocess.Popen(command_words(self.text, self.other), stderr=subprocess.PIPE, env=environment(), preexec_fn=heed_interrupts) as weave:
             while not os.path.exists(self.place("a.log")):
                 time.sleep(0.02)
             weave.send_signal(signal.SIGINT)

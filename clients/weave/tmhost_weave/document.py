@@ -4,12 +4,12 @@ import dataclasses
 import re
 from typing import Counter, Dict, FrozenSet, Iterator, List, Optional, Sequence, Tuple
 
+from tmhost.near import near
 from tmhost_fences.blocks import FENCE, LINE, Block, block_of, cut, tokens_of
 from tmhost_fences.fields import Group, groups, language_in, whole
 from tmhost_fences.front import SESSIONS, Sessions, front_of, sessions_meant, why_misspelt
 from tmhost_fences.info import ATTRIBUTES, LITERAL, NO, OBEYED, is_hidden, is_without_text, wants_errors
 from tmhost_fences.meant import session_meant
-from tmhost_fences.near import near
 from tmhost_fences.troubles import Trouble
 
 from .answers import Finder, Shown, is_of_an_answer, lines_of

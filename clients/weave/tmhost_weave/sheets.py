@@ -30,7 +30,7 @@ def make(path: str) -> None:
     new = path + ".new"
     remove(new, new + SECOND)
     if os.path.lexists(path + SECOND) and os.path.getsize(path + SECOND):
-        raise Trouble(f"{path + SECOND} is there without {path}, to which it belongs")
+        raise Trouble(f"{path + SECOND} is there without {path}, to which it belongs; put that back, or remove {path + SECOND} and {AGAIN}: its answers are lost then")
     try:
         make_at(new, path)
         # The second file of a new worksheet is empty, so one that is there alone may go.

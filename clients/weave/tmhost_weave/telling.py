@@ -1,15 +1,10 @@
 """What is said of a text as a whole, of its sessions, and of fields without an answer."""
-from typing import List, Optional, Sequence
-
-from tmhost.starting import PROGRAMS, doubt
-
-from tmhost_fences.meant import adapter_meant
+from typing import List, Optional
 
 from .document import Document
 from .evaluation import AT_CODE, AT_START
 from .plan import Wanted
 
-BY_KERNEL = "jupyter"  # an adapter whose program is Python's, so it has no place among the others
 MOST_REPORTED = 5  # kinds of fences, in a message
 LONGEST_INFO = 40  # characters of what stands at one
 
@@ -38,10 +33,3 @@ def later_ones(wanted: List[Wanted]) -> str:
     if len(wanted) == 1:
         return f"1 later field of {name} isn't evaluated (line {first})"
     return f"{len(wanted)} later fields of {name} aren't evaluated (lines {first} to {last})"
-
-
-def doubt_of(words: Sequence[str]) -> Optional[str]:
-    """Why a session will have no answers, as far as that is known, and which adapter is most likely meant."""
-    why = doubt(words)
-    meant = adapter_meant(words[0], [*PROGRAMS, BY_KERNEL]) if why else None
-    return f"{why}: is {meant} meant?" if meant else why

@@ -22,7 +22,7 @@ from .pictures import Pictures
 from .plan import Plan, Wanted
 from .sheets import AGAIN, fit, has_no_space, make, opened, remove, sheet_path, shorten
 from .targets import page_of, place_of
-from .telling import doubt_of, later_ones, reason_of, why_nothing
+from .telling import later_ones, reason_of, why_nothing
 from tmhost_fences.blocks import cut as cut_line
 from tmhost_fences.targets import refuse_target
 from tmhost_fences.troubles import Trouble
@@ -162,7 +162,7 @@ class Weave:
             self.plan = plan = Plan(self.document, sheet.sessions, sheet.fields)
             fit(sheet, plan)
             for name in plan.words:
-                why = doubt_of(plan.words[name]) if plan.stale(name) else None
+                why = doubt(plan.words[name]) if plan.stale(name) else None
                 if why:
                     self.say(f"{plan.of(name)[0].session_in_text}: {why}")
             evaluator = Evaluator(sheet, plan, seconds, self.begun, self.late)

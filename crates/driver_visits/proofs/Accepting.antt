@@ -2,6 +2,7 @@
 use Rattle.std.proofs.Common.{◌≡◌, ◌∙◌, inl, inr, ℕ, List, [], ◌∷◌, ◌++◌, Option, refl, sym, ap, subst, append-nil, append_assoc, IsTrue, Some, None}
 use Rattle.std.specs.Prelude.{Result, Ok, Err}
 use Rattle.std.specs.Io.KnownBytes.{Appends}
+use Rattle.std.proofs.Math.Nat.{le_refl}
 use Rattle.disk_model.specs.Disk.{DiskView, Image, bytes_on}
 use Rattle.disk_model.specs.inside.Moments.{started, weakens}
 use Rattle.worksheet.specs.declared.op.Op.{Op}
@@ -88,6 +89,8 @@ module _ (disk back : DiskView) (model : IsTrue disk.keeps_model) (sheet : Conte
         same = found.same;
         moments = λ keeps. started (HasFirst ops [] []) now.history (λ i image. here i (found.durable model i image));
       })
+      (found.looks model)
+      (record { room = refl; keeps_model = refl; later = le_refl now.faults })
       (inl refl)
       (λ keeps i image. here i (found.durable model i image)))
 
@@ -104,6 +107,8 @@ module _ (disk back : DiskView) (model : IsTrue disk.keeps_model) (sheet : Conte
         same = found.same;
         moments = λ keeps. weakens (IsAmong ops put) (HasFirst ops put []) now.history back.history (among_first ops put) (holds.moments keeps);
       })
+      (found.looks model)
+      holds.same
       (inl refl)
       (λ keeps i image. all_first ops put i (holds.holds keeps i image))
 
@@ -123,6 +128,8 @@ module _ (disk back : DiskView) (model : IsTrue disk.keeps_model) (sheet : Conte
         same = found.same;
         moments = λ keeps. weakens (IsAmong ops (put ++ one ∷ [])) (HasFirst ops (put ++ one ∷ []) []) now.history back.history (among_first ops (put ++ one ∷ [])) (holds.moments keeps);
       })
+      (found.looks model)
+      holds.same
       (inr (one, refl))
       (λ keeps i image. but_first ops put one i (holds.holds keeps i image))
 

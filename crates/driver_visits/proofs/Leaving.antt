@@ -1,8 +1,8 @@
 -- What a run leaves, after whatever invocations there were.
-use Rattle.std.proofs.Common.{◌≡◌, List, [], ◌∷◌, ◌++◌, refl, sym, subst, IsTrue, ℕ}
-use Rattle.std.specs.Prelude.{Result, length}
+use Rattle.std.proofs.Common.{◌≡◌, ◌≤◌, List, [], ◌∷◌, ◌++◌, refl, sym, subst, IsTrue, None, Option, Some, ℕ}
+use Rattle.std.specs.Prelude.{IfSome, Result, length}
 use Rattle.std.proofs.Math.Nat.{le_refl}
-use Rattle.disk_model.specs.Disk.{DiskView, History, Image, IsImage, Looks, bytes_on}
+use Rattle.disk_model.specs.Disk.{AtMoment, DiskState, DiskView, History, Image, IsImage, Looks, bytes_on}
 use Rattle.journal.specs.declared.journal.OpenFault.{OpenFault}
 use Rattle.session_engine.specs.World.{world_at_opening}
 use Rattle.session_engine.specs.Host.{HostView}
@@ -19,7 +19,7 @@ use Rattle.driver.specs.Place.{Rules}
 use Rattle.driver.specs.Laws.{trace}
 use Rattle.driver.specs.Runs.{left_at_end}
 use Rattle.driver.specs.Over.{Over, ProgramParts, RanOver, first_place, not_opened, program_parts, ran_over}
-use Rattle.driver_visits.specs.Runs.{CrashesLeave, Earlier, LeavesPrefix, LeavesPrinted, LeftWith, OpeningLeaves, RunsThenOpens, ran, unknown_reports, unopened}
+use Rattle.driver_visits.specs.Runs.{CrashesLeave, Earlier, LeavesPrefix, LeavesPrinted, LeftWith, OpeningLeaves, OpensAfterCrash, OpensCrashed, RunsThenCrashes, RunsThenOpens, not_begun, ran, unknown_reports, unopened, was_cut}
 use Rattle.driver_visits.specs.Visits.{turn_of}
 use Rattle.driver_visits.proofs.Parts.{Parted, parted}
 use Rattle.driver_visits.proofs.Visiting.{durable_at, visit_by}
@@ -103,3 +103,37 @@ module _ {A C K D : Type 0} (hosts : HostsInTurn) (R : Rules A C K) (first : Pro
   runs_then_opens disk answer (not_opened why was) kept image after = unopened why disk was
       (λ restarted crash crashed. opening_leaves (bytes_on first.disk) first.disk disk crash restarted (was.looks model) crashed)
       (still_opens disk kept (was.looks model) after)
+
+-- A crash left this image of the disk at this moment, and it was opened.
+module _ {A C K D : Type 0} (hosts : HostsInTurn) (R : Rules A C K) (first last : ProgramParts A C K) (answer : Result (Unit {0}) RunFault) (it : RanOver R first last answer) (model : IsTrue first.disk.keeps_model)
+    (moment : ℕ) (state : DiskState) (at : AtMoment moment last.disk.history state) (crash : DiskView) (kept : IsTrue crash.keeps_model) (image : IsImage state (bytes_on crash))
+    (opened : Result HostView (OpenFault D)) (after : OpensAfterPrograms crash opened) (e : Earlier first.disk) where
+  opens_with : (turn : HostTurn) → LeftWith e turn (bytes_on crash) → Opens first.disk.room e.ops e.image (bytes_on crash) (e.turns ++ turn ∷ []) opened
+  opens_with turn left = after kept first.disk.room e.ops e.image (e.turns ++ turn ∷ []) e.allowed e.found left.goes_on
+
+  abbrev crashed_at : (from : History) → length from.past ≤ moment → CrashedSince from last.disk.history (bytes_on crash)
+  crashed_at from since = record { moment = moment; state = state; at = at; since = since; leaves = image }
+
+  pub opens_after_crash : OpensAfterCrash R first last answer it moment (bytes_on crash) opened e
+  opens_after_crash = record {
+    unreported = (whole hosts R first last answer it model e).events;
+    within = λ since.
+        opens_with (unknown_reports (turn_of it.steps (whole hosts R first last answer it model e).events))
+        (within hosts R first last answer it model e (bytes_on crash) (crashed_at it.opened.now.history since));
+    printed_is = λ done rest r is.
+        let p = printed_is hosts R first last answer it model e done rest r is in (
+          p,
+          λ since.
+              opens_with (record { events = (turn_of it.steps p.unreported).events; reported = outcomes_of (trace done) })
+              (p.since (bytes_on crash) (crashed_at p.there.disk.history since)),
+        );
+  }
+
+pub runs_then_crashes : {A C K D : Type 0} → HostsInTurn → (R : Rules A C K) (first : ProgramParts A C K) (sources : C) (sink : K) (agenda : A) (disk : DiskView) (answer : Result (Unit {0}) RunFault)
+    → IsTrue first.disk.keeps_model → Over R first (program_parts disk sources sink agenda) answer → (moment : ℕ) (opened : Option (Result HostView (OpenFault D)))
+    → IfSome opened (OpensCrashed moment disk) → IfSome opened (λ o. RunsThenCrashes R first sources sink agenda moment o answer)
+runs_then_crashes hosts R first sources sink agenda disk answer model over moment None left = tt
+runs_then_crashes hosts R first sources sink agenda disk answer model (ran_over reported it) moment (Some opened) left =
+    was_cut reported disk left.state (bytes_on left.crash) it left.at left.image
+    (λ e. opens_after_crash hosts R first (program_parts disk sources sink agenda) reported it model moment left.state left.at left.crash left.keeps_model left.image opened left.opens e)
+runs_then_crashes hosts R first sources sink agenda disk answer model (not_opened why was) moment (Some opened) left = not_begun why disk was

@@ -57,7 +57,7 @@ module _ {A C K : Type 0} (R : Rules A C K) (first last : ProgramParts A C K) (a
   pub ends_as_visit : EndsAsVisit R first last answer it
   ends_as_visit =
       let p = parted R (first_place first it.opened) at_end (ask ∷ []) (left_at_end answer) it.steps it.ran in
-      record { unreported = p.events; visit = visit_by p }
+      record { unreported = p.events; visit = visit_by p; looks = it.opened.looks model }
 
   -- an image after events of the steps before, and some of those that came then
   has_all : (bs cs : List Entry) (v : World) (es : List Event) (os : List Outcome) (i : Image) → Runs start (events_of bs) (outcomes_of bs) v → LeftAmong v (events_of cs ++ es) os i

@@ -2,7 +2,7 @@
 -- (docs/trust/THEOREM.md; premise A7 in the README of crate `theorem`.)
 use Rattle.std.specs.Prelude.{◌≡◌, ◌⊎◌, ℕ, IsTrue, List, [], ◌∷◌, ◌++◌, Option, Result, Ok, Err}
 use Rattle.std.specs.Io.KnownBytes.{Appends}
-use Rattle.disk_model.specs.Disk.{DiskView, InModel, Leaves, bytes_on}
+use Rattle.disk_model.specs.Disk.{DiskView, InModel, Leaves, Looks, SameDisk, bytes_on}
 use Rattle.worksheet.specs.declared.op.Op.{Op}
 use Rattle.theorem.specs.Acts.{Files, HasFirst}
 use Rattle.offline_programs.specs.declared.fault.RunFault.TheVariants as fault
@@ -21,12 +21,12 @@ use Rattle.sheet_check.specs.declared.named.CheckFault.TheVariants as checks
 abbrev pub AtMostOneMore : List Op → List Op → Type 0
 AtMostOneMore put reported = (put ≡ reported) ⊎ ((last : Op) × (put ≡ reported ++ last ∷ []))
 
--- What an acceptance that reported these answers left of a disk that keeps the model. It couldn't open it and made reads alone. Or it put answers
--- in, those and at most one more, and when it had ended each image that a crash may leave has all that it reported.
+-- What an acceptance that reported these answers left of a disk that keeps the model. It couldn't open it and made reads alone. Or it opened it, which
+-- changed no byte, put answers in, those and at most one more, and when it had ended each image that a crash may leave has all that it reported.
 pub data LeftByAcceptance (disk back : DiskView) : List Op → Type 0 where
   only_read : OnlyRead disk back → LeftByAcceptance disk back []
-  put_in : {reported : List Op} (ops put : List Op) → (f : Files (bytes_on disk) disk ops put back)
-      → AtMostOneMore put reported → InModel f.now (Leaves (HasFirst ops put reported) back.history.now) → LeftByAcceptance disk back reported
+  put_in : {reported : List Op} (ops put : List Op) → (f : Files (bytes_on disk) disk ops put back) → Looks disk.history f.now.history
+      → SameDisk f.now back → AtMostOneMore put reported → InModel f.now (Leaves (HasFirst ops put reported) back.history.now) → LeftByAcceptance disk back reported
 
 -- what stands after the report of these cases: their counts, and nothing where it ended by a fault
 abbrev pub closing_after : List Case → Result Counts CheckFault → List ℕ

@@ -1,3 +1,4 @@
 pub mod Acceptances
+pub mod Filed
 pub mod Runs
 pub mod Visits

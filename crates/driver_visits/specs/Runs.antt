@@ -1,7 +1,7 @@
 -- One run of a program, after whatever invocations there were: what a crash at any moment of it leaves, and what opens when it has ended. So the contract
 -- of `run_over`, the laws of this crate and the theorem are one statement. (docs/trust/THEOREM.md; premises A1 to A7 in the README of crate `theorem`.)
-use Rattle.std.specs.Prelude.{◌≡◌, List, [], ◌∷◌, ◌++◌, true, Result, Err}
-use Rattle.disk_model.specs.Disk.{DiskView, History, Image, IsRestarted, bytes_on}
+use Rattle.std.specs.Prelude.{◌≡◌, ◌≤◌, ℕ, IsTrue, List, [], ◌∷◌, ◌++◌, length, true, Result, Err}
+use Rattle.disk_model.specs.Disk.{AtMoment, DiskState, DiskView, History, Image, IsImage, IsRestarted, bytes_on}
 use Rattle.journal.specs.declared.journal.OpenFault.{OpenFault}
 use Rattle.journal.specs.declared.opening.OpenCause.{OpenCause}
 use Rattle.worksheet.specs.declared.op.Op.{Op}
@@ -13,7 +13,7 @@ use Rattle.session_engine.specs.Host.{HostView}
 use Rattle.host_laws.specs.Turns.{HostTurn, LeftInTurn}
 use Rattle.child_edge.specs.Moments.{outcomes_of}
 use Rattle.theorem.specs.Story.{CrashedSince, Opens}
-use Rattle.theorem.specs.Programs.{Invocations}
+use Rattle.theorem.specs.Programs.{Invocations, OpensAfterPrograms}
 use Rattle.offline_programs.specs.declared.fault.RunFault.{RunFault}
 use Rattle.offline_programs.specs.declared.fault.RunFault.TheVariants as fault
 use Rattle.driver.specs.Reports.{Report, printed_text}
@@ -81,3 +81,28 @@ pub data RunsThenOpens {A C K D : Type 0} (R : Rules A C K) (first : ProgramPart
       → ((e : Earlier first.disk) → LeavesPrefix R first (program_parts disk sources sink agenda) answer opened it e) → RunsThenOpens R first sources sink agenda opened answer
   unopened : (why : OpenCause) (disk : DiskView) → WasNotOpened first (program_parts disk sources sink agenda) why → OpeningLeaves first.disk disk.history
       → ((e : Earlier first.disk) → Opens first.disk.room e.ops e.image (bytes_on disk) e.turns opened) → RunsThenOpens R first sources sink agenda opened (Err (fault.Open why))
+
+-- A crash at this moment of a disk left an image, and this was opened on a disk that holds it: what the theorem says.
+pub record OpensCrashed {D : Type 0} (moment : ℕ) (disk : DiskView) (opened : Result HostView (OpenFault D)) : Type 0 where
+  pub state : DiskState
+  pub at : AtMoment moment disk.history state
+  pub crash : DiskView
+  pub image : IsImage state (bytes_on crash)
+  pub keeps_model : IsTrue crash.keeps_model
+  pub opens : OpensAfterPrograms crash opened
+
+-- What is opened on the image that a crash left at this moment of a run: where the worksheet had been opened by then, the worksheet after a prefix of the
+-- run's events, which has all that had been printed.
+pub record OpensAfterCrash {A C K D : Type 0} (R : Rules A C K) (first last : ProgramParts A C K) (answer : Result (Unit {0}) RunFault) (it : RanOver R first last answer) (moment : ℕ) (after : Image) (opened : Result HostView (OpenFault D)) (e : Earlier first.disk) : Type 0 where
+  pub unreported : List Event
+  pub within : length it.opened.now.history.past ≤ moment → Opens first.disk.room e.ops e.image after (e.turns ++ unknown_reports (turn_of it.steps unreported) ∷ []) opened
+  pub printed_is : (done rest : List RunStep) (r : Report) → it.steps ≡ done ++ printed r ∷ rest
+      → (p : LeavesPrinted R first last answer it e done r)
+      × (length p.there.disk.history.past ≤ moment → Opens first.disk.room e.ops e.image after (e.turns ++ record { events = (turn_of it.steps p.unreported).events; reported = outcomes_of (trace done) } ∷ []) opened)
+
+-- A run over a disk was answered so, a crash at this moment of it left an image, and that was opened.
+pub data RunsThenCrashes {A C K D : Type 0} (R : Rules A C K) (first : ProgramParts A C K) (sources : C) (sink : K) (agenda : A) (moment : ℕ) (opened : Result HostView (OpenFault D)) : Result (Unit {0}) RunFault → Type 0 where
+  was_cut : (answer : Result (Unit {0}) RunFault) (disk : DiskView) (state : DiskState) (after : Image) (it : RanOver R first (program_parts disk sources sink agenda) answer)
+      → AtMoment moment disk.history state → IsImage state after → ((e : Earlier first.disk) → OpensAfterCrash R first (program_parts disk sources sink agenda) answer it moment after opened e)
+      → RunsThenCrashes R first sources sink agenda moment opened answer
+  not_begun : (why : OpenCause) (disk : DiskView) → WasNotOpened first (program_parts disk sources sink agenda) why → RunsThenCrashes R first sources sink agenda moment opened (Err (fault.Open why))

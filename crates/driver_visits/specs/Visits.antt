@@ -1,7 +1,7 @@
 -- Whatever is driven over a disk is an invocation of the theorem, and what it had printed when it was cut off was durable.
 -- (docs/trust/THEOREM.md; premises A1 to A7 in the README of crate `theorem`.)
 use Rattle.std.specs.Prelude.{◌≡◌, IsTrue, List, [], ◌∷◌, ◌++◌, true, Result}
-use Rattle.disk_model.specs.Disk.{LeavesOnly, bytes_on}
+use Rattle.disk_model.specs.Disk.{LeavesOnly, Looks, bytes_on}
 use Rattle.host_events.specs.declared.event.Event.{Event}
 use Rattle.session_engine.specs.World.{world_at_opening}
 use Rattle.host_laws.specs.Turns.{HostTurn}
@@ -19,10 +19,12 @@ use Rattle.driver.specs.Over.{ProgramParts, RanOver, first_place}
 abbrev pub turn_of : List RunStep → List Event → HostTurn
 turn_of steps unreported = record { events = events_of (trace steps) ++ unreported; reported = outcomes_of (trace steps) }
 
--- It is a visit: at its end all that is in its trace is durable, and of these last events nothing was reported.
+-- It is a visit: the opening changed no byte and left no image that is new, at its end all that is in its trace is durable, and of these last events nothing
+-- was reported.
 pub record EndsAsVisit {A C K : Type 0} (R : Rules A C K) (first last : ProgramParts A C K) (answer : Result (Unit {0}) RunFault) (it : RanOver R first last answer) : Type 0 where
   pub unreported : List Event
   pub visit : Visit (bytes_on first.disk) first.disk (turn_of it.steps unreported) last.disk
+  pub looks : Looks first.disk.history visit.now.history
 
 -- Whatever is driven over a disk that keeps the model, by these rules, is a visit.
 abbrev pub DrivenIsVisit : {A C K : Type 0} → (R : Rules A C K) → Type 0

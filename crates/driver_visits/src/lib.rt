@@ -14,11 +14,15 @@ ghost use Rattle.driver_visits.specs.Acceptances.{AcceptancesAreFiled};
 ghost use Rattle.driver_visits.specs.Visits.{DrivenIsVisit, PrintedIsDurable};
 ghost use Rattle.sheet_check.specs.Evaluated.{way};
 
+mod crashed;
+mod filed;
 mod runs;
 
 use arrivals::Sources;
+pub use crashed::{RanThenCrashed, run_then_crash};
 use driver::{Agenda, Sink, Stamped};
 use evaluation::Programs;
+pub use filed::{AcceptedThenOpened, accept_then_open};
 pub use runs::{RanThenOpened, run_then_open};
 use std::io::Write;
 use tellings::Tells;

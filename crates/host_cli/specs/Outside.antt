@@ -39,7 +39,9 @@ pub record OutsideView (D P S I W E : Type 0) : Type 1 where
   pub places : places.Ghosts P D
   pub disks : Closable D
   pub sources : SourceRules S
+  -- the sources before they begin to write out what is no answer yet, and after
+  pub begins : S → S → Type 0
   pub streams : StreamsSeen I W E
 
-abbrev pub outside_view : {D P S I W E : Type 0} → places.Ghosts P D → Closable D → SourceRules S → StreamsSeen I W E → OutsideView D P S I W E
-outside_view p d s t = record { places = p; disks = d; sources = s; streams = t }
+abbrev pub outside_view : {D P S I W E : Type 0} → places.Ghosts P D → Closable D → SourceRules S → (S → S → Type 0) → StreamsSeen I W E → OutsideView D P S I W E
+outside_view p d s b t = record { places = p; disks = d; sources = s; begins = b; streams = t }

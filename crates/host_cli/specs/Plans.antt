@@ -1,6 +1,7 @@
 -- What the words of `eval` ask for (docs/use/EVAL.md), and what those of `check` do beside its request.
-use Rattle.std.specs.Prelude.{◌≡◌, ◌&&◌, ◌||◌, ℕ, Bool, true, false, List, [], ◌∷◌, Option, Some, None, cond, is_some, length, nat_le, nat_lt, Result, Ok, Err}
+use Rattle.std.specs.Prelude.{◌≡◌, ◌&&◌, ◌||◌, ℕ, Bool, true, false, List, [], ◌∷◌, Option, Some, None, cond, is_some, length, map, nat_le, nat_lt, Result, Ok, Err}
 use Rattle.std.specs.Option.{option_map}
+use Rattle.std.specs.Borrow.{Bor}
 use Rattle.clap.specs.Words.{Text}
 use Rattle.check_report.specs.declared.report.Format.{Format}
 use Rattle.check_report.specs.declared.report.Format.TheVariants as format
@@ -19,6 +20,14 @@ use Rattle.host_cli.specs.declared.plans.PlanFault.{PlanFault}
 use Rattle.host_cli.specs.declared.plans.PlanFault.TheVariants as plans
 use Rattle.host_cli.specs.declared.plans.SeveralFault.{SeveralFault}
 use Rattle.host_cli.specs.declared.plans.SeveralFault.TheVariants as several_fault
+use Rattle.sheet_check.specs.declared.manner.Beside.{Beside}
+
+-- the text of a word that may be given, and those of words
+abbrev pub word_text : Option (Bor Text) → Option Text
+word_text word = option_map (λ it. it.now) word
+
+abbrev pub word_texts : List (Bor Text) → List Text
+word_texts words = map (λ word. word.now) words
 
 -- the time that a field may take: 1 to 1,000,000 seconds, or without a limit
 abbrev pub seconds_by : Bool → ℕ → Option (Option ℕ)
@@ -106,6 +115,10 @@ pub record CheckPlan : Type 0 where
 
 abbrev pub check_plan : Request → ℕ → CheckPlan
 check_plan request jobs = record { request = request; jobs = jobs }
+
+-- the same, as functions are given it
+abbrev pub plan_of : Beside → CheckPlan
+plan_of beside = check_plan beside.manner.request.now beside.jobs
 
 -- the numbers that words write, where each of them writes one
 abbrev pub with_id : Option ℕ → Option (List ℕ) → Option (List ℕ)

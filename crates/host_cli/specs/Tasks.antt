@@ -1,5 +1,5 @@
 -- What each task does, over all that is outside.
-use Rattle.std.specs.Prelude.{◌≡◌, ◌⊎◌, ◌||◌, ℕ, true, false, Bool, List, [], Option, None, is_some, nat_le, Result, Ok, Err, IfOk, IfErr, MatchOption, MatchResult, ◌∷◌, ◌++◌}
+use Rattle.std.specs.Prelude.{◌≡◌, ◌⊎◌, ◌||◌, ℕ, true, false, Bool, List, [], Option, is_some, nat_le, Result, Ok, Err, IfOk, IfErr, MatchOption, MatchResult, ◌∷◌, ◌++◌}
 use Rattle.std.specs.Bool.{MatchBool}
 use Rattle.std.specs.Io.KnownBytes.{Appends}
 use Rattle.clap.specs.Words.{Text}
@@ -25,21 +25,21 @@ use Rattle.program_endings.specs.AcceptProgram.{AcceptEnds}
 use Rattle.program_endings.specs.CheckProgram.{CheckEnds}
 use Rattle.program_endings.specs.SeveralProgram.{TotalEnds, ending_of, is_unwritten, total_of, worksheet_line}
 use Rattle.program_endings.specs.TogetherProgram.{TogetherEnds}
-use Rattle.program_endings.specs.Ending.{BlocksAnswer, EndsAs, ProgramAnswer}
-use Rattle.program_endings.specs.BlocksProgram.{ObjectsAnswer}
-use Rattle.program_endings.specs.EvalProgram.{EvaluationEnded, eval_setting}
+use Rattle.program_endings.specs.Ending.{EndsAs, ProgramAnswer}
+use Rattle.program_endings.specs.BlocksProgram.{BlocksEnd, ObjectsEnd}
+use Rattle.program_endings.specs.EvalProgram.{EvaluationOpened, eval_setting}
 use Rattle.program_endings.specs.ExportProgram.{ExportEnds}
 use Rattle.program_endings.specs.PastProgram.{EndsPast, FilesArePast, HistoryEnds, PastExported, PastShown}
 use Rattle.past.specs.declared.fault.PastFault.{PastFault}
 use Rattle.program_endings.specs.Faults.{no_place}
 use Rattle.program_endings.specs.Programs.{CreateEnds, EndsUnopened, ShowEnds, TellsMake}
-use Rattle.program_endings.specs.Records.{Calling, Streams, calling, given_disk, streams, writing}
-use Rattle.program_endings.specs.LiveProgram.{LastReported, LiveEnded, LiveUnopened, live_setting}
+use Rattle.program_endings.specs.Records.{ProgramPassage, Streams, calling, given_disk, passage_of, streams, writing}
+use Rattle.program_endings.specs.LiveProgram.{LiveOpened, LiveUnopened, live_setting}
 use Rattle.tellings.specs.Json.{in_json}
 use Rattle.tellings.specs.Voice.{Voice}
 use Rattle.tellings.specs.Words.{in_words}
 use Rattle.program_endings.specs.RescueProgram.{FilesAreRead, RescueEnds, said_streams}
-use Rattle.program_endings.specs.ScriptProgram.{ScriptEnds}
+use Rattle.program_endings.specs.ScriptProgram.{ScriptOpened, script_setting}
 use Rattle.program_endings.specs.declared.check_program.CheckEnding.{CheckEnding}
 use Rattle.program_endings.specs.declared.ending.Ending.{Ending}
 use Rattle.recovery.specs.declared.rescuing.Rescued.{Rescued}
@@ -51,9 +51,6 @@ use Rattle.sheet_files.specs.declared.files_fault.HoldFault.{HoldFault}
 use Rattle.sheet_files.specs.declared.files_fault.MakeFault.{MakeFault}
 use Rattle.sheet_check.specs.declared.named.CheckFault.TheVariants as checks
 use Rattle.evaluation.specs.declared.plan.Plan.{Plan}
-use Rattle.sheet_check.specs.Evaluated.{checking_by}
-use Rattle.sheet_check.specs.Accept.{accepting_by}
-use Rattle.sheet_check.specs.Together.{together_by}
 
 abbrev pub voice_by : Bool → Voice
 voice_by true = in_json
@@ -85,9 +82,9 @@ module _ {Y D P S I W E Q : Type 0} (o : OutsideView D P S I W E) where
   abbrev pub streams_of : Outside Y D P S I W E Q → Outside Y D P S I W E Q → Streams W E
   streams_of old new = streams (writing o.streams.written old.output new.output) (errors_of old new)
 
-  -- the interpreters, before and after
-  abbrev pub calling_of : Outside Y D P S I W E Q → Outside Y D P S I W E Q → Calling S
-  calling_of old new = calling old.sources new.sources
+  -- the sources, the interpreters among them, and the output, before and after, as a program has them beside a disk
+  abbrev pub passed_of : Outside Y D P S I W E Q → Outside Y D P S I W E Q → ProgramPassage D S W
+  passed_of old new = passage_of o.disks o.sources (calling old.sources new.sources) (writing o.streams.written old.output new.output)
 
   -- how a program with this answer ends, and what it says on the stream of errors
   abbrev pub EndsWith : Outside Y D P S I W E Q → Outside Y D P S I W E Q → Ending → ProgramAnswer → Type 0
@@ -100,12 +97,11 @@ module _ {Y D P S I W E Q : Type 0} (o : OutsideView D P S I W E) where
 
   -- `blocks`
   abbrev pub DoesBlocks : Outside Y D P S I W E Q → Outside Y D P S I W E Q → Ending → Type 0
-  DoesBlocks old new ending = (answer : ProgramAnswer) × BlocksAnswer (o.streams.stream old.input) o.streams.written old.output new.output answer × EndsWith old new ending answer
+  DoesBlocks old new ending = BlocksEnd (o.streams.stream old.input) (streams_of old new) ending
 
   -- `blocks --json`, which has a fault of its own last
   abbrev pub DoesBlocksInJson : Outside Y D P S I W E Q → Outside Y D P S I W E Q → Ending → Type 0
-  DoesBlocksInJson old new ending = (answer : ProgramAnswer) × (mid : W) × ObjectsAnswer (o.streams.stream old.input) o.streams.written old.output mid answer
-      × LastReported in_json o.streams.written mid new.output ending.reported answer × EndsWith old new ending answer
+  DoesBlocksInJson old new ending = ObjectsEnd (o.streams.stream old.input) (streams_of old new) ending
 
   -- `create` of what the places make at a path, or of why they don't
   abbrev pub DoesCreate : Outside Y D P S I W E Q → Outside Y D P S I W E Q → Ending → Text → Type 0
@@ -123,12 +119,12 @@ module _ {Y D P S I W E Q : Type 0} (o : OutsideView D P S I W E) where
   -- `check` of the same, of one field after another
   abbrev pub ChecksAs : Outside Y D P S I W E Q → Outside Y D P S I W E Q → CheckEnding → Text → CheckPlan → Type 0
   ChecksAs old new end path c = (files : Result D FilesFault) × o.places.reads old.places path files new.places
-      × CheckEnds o.disks (checking_by o.sources.after o.sources.clock o.sources.wakes c.request) files (calling_of old new) (streams_of old new) end
+      × CheckEnds c.request files (passed_of old new) (errors_of old new) end
 
   -- the same, of fields of so many sessions side by side
   abbrev pub TogetherAs : Outside Y D P S I W E Q → Outside Y D P S I W E Q → CheckEnding → Text → CheckPlan → Type 0
   TogetherAs old new end path c = (files : Result D FilesFault) × o.places.reads old.places path files new.places
-      × TogetherEnds o.disks (together_by o.sources.after o.sources.clock o.sources.wakes c.jobs c.request) files (calling_of old new) (streams_of old new) end
+      × TogetherEnds c.jobs c.request files (passed_of old new) (errors_of old new) end
 
   -- the one or the other, once the places are held
   abbrev pub Compares : Outside Y D P S I W E Q → Outside Y D P S I W E Q → CheckEnding → Text → CheckPlan → Type 0
@@ -143,7 +139,7 @@ module _ {Y D P S I W E Q : Type 0} (o : OutsideView D P S I W E) where
   -- `check --accept` of what they open to write
   abbrev pub AcceptsHeld : Outside Y D P S I W E Q → Outside Y D P S I W E Q → Ending → Text → Request → Type 0
   AcceptsHeld old new ending path request = (files : Result D FilesFault) × o.places.opens old.places path files new.places
-      × AcceptEnds o.disks (accepting_by o.sources.after o.sources.clock o.sources.wakes request) files (calling_of old new) (streams_of old new) ending
+      × AcceptEnds request files (passed_of old new) (errors_of old new) ending
 
   abbrev pub AcceptsAs : Outside Y D P S I W E Q → Outside Y D P S I W E Q → Ending → Text → Request → Type 0
   AcceptsAs old new ending path request =
@@ -224,12 +220,12 @@ module _ {Y D P S I W E Q : Type 0} (o : OutsideView D P S I W E) where
 
   -- files that weren't opened: nothing is read or written, and no child is called
   abbrev pub Unopened : Outside Y D P S I W E Q → Outside Y D P S I W E Q → Ending → FilesFault → Type 0
-  Unopened old new ending why = (new.input ≡ old.input) × EndsUnopened (calling_of old new) (streams_of old new) ending why
+  Unopened old new ending why = (new.input ≡ old.input) × EndsUnopened (passed_of old new) (errors_of old new) ending why
 
   -- `run` of a script on a disk, in words, strict or not
   abbrev pub RunsOn : Bool → Outside Y D P S I W E Q → Outside Y D P S I W E Q → Ending → D → Type 0
   RunsOn strict old new ending disk =
-      ScriptEnds (live_setting (line_by_line None strict) in_words o.sources o.streams.held) (o.streams.stream old.input) (given_disk o.disks disk) (calling_of old new) (streams_of old new) ending
+      ScriptOpened (script_setting strict o.streams.held) (o.streams.stream old.input) (passed_of old new) (errors_of old new) ending disk
 
   -- `run` in words over what the places open at a path, strict or not
   abbrev pub RunsScript : Bool → Outside Y D P S I W E Q → Outside Y D P S I W E Q → Ending → Text → Type 0
@@ -240,13 +236,13 @@ module _ {Y D P S I W E Q : Type 0} (o : OutsideView D P S I W E) where
   -- `eval` on a disk, printed in a voice
   abbrev pub EvaluatesOn : Voice → Plan → Outside Y D P S I W E Q → Outside Y D P S I W E Q → Ending → D → Type 0
   EvaluatesOn V plan old new ending disk =
-      EvaluationEnded (eval_setting plan new.places o.places.finds V o.sources o.streams.held) (given_disk o.disks disk) (calling_of old new) (streams_of old new) ending
+      EvaluationOpened (eval_setting plan new.places o.places.finds V o.streams.held) (passed_of old new) (errors_of old new) ending disk
 
   -- `eval` over what the places open at a path, by a plan
   abbrev pub EvaluatesAs : Voice → Plan → Outside Y D P S I W E Q → Outside Y D P S I W E Q → Ending → Text → Type 0
   EvaluatesAs V plan old new ending path =
       HeldFirst old new (λ why. (new.sources ≡ old.sources) × EndsWith old new ending (Err why)) (λ held. (files : Result D FilesFault) × o.places.opens held path files new.places
-      × IfErr files (LiveUnopened V (calling_of old new) (streams_of old new) ending) × IfOk files (EvaluatesOn V plan old new ending))
+      × IfErr files (LiveUnopened V (passed_of old new) (errors_of old new) ending) × IfOk files (EvaluatesOn V plan old new ending))
 
   -- where the words ask for nothing that there is they are refused, and nothing is done
   abbrev pub EvaluatesNothing : Outside Y D P S I W E Q → Outside Y D P S I W E Q → Ending → PlanFault → Type 0
@@ -261,12 +257,16 @@ module _ {Y D P S I W E Q : Type 0} (o : OutsideView D P S I W E) where
   abbrev pub LivesAs : Manner → Voice → Outside Y D P S I W E Q → Outside Y D P S I W E Q → Ending → Text → Type 0
   LivesAs manner V old new ending path =
       HeldFirst old new (λ why. (new.sources ≡ old.sources) × EndsWith old new ending (Err why)) (λ held. (files : Result D FilesFault) × o.places.opens held path files new.places
-      × IfErr files (λ why. (new.input ≡ old.input) × LiveUnopened V (calling_of old new) (streams_of old new) ending why)
-      × IfOk files (λ disk. LiveEnded (live_setting manner V o.sources o.streams.held) (o.streams.stream old.input) (given_disk o.disks disk) (calling_of old new) (streams_of old new) ending))
+      × IfErr files (λ why. (new.input ≡ old.input) × LiveUnopened V (passed_of old new) (errors_of old new) ending why)
+      × IfOk files (LiveOpened (live_setting manner V o.streams.held) (o.streams.stream old.input) (passed_of old new) (errors_of old new) ending))
 
   -- `live` in a voice
   abbrev pub DoesLive : Voice → Outside Y D P S I W E Q → Outside Y D P S I W E Q → Ending → Text → Type 0
   DoesLive V old new ending path = LivesAs as_it_comes V old new ending path
+
+  -- `live --json --partial`: the sources begin to write out what is no answer yet, and then it is `live --json`
+  abbrev pub LivesPartial : Outside Y D P S I W E Q → Outside Y D P S I W E Q → Ending → Text → Type 0
+  LivesPartial old new ending path = (begun : S) × o.begins old.sources begun × DoesLive in_json (record old { sources = begun }) new ending path
 
   -- where the words of `run` ask for nothing that there is they are refused with this text, and nothing is done
   abbrev pub RunsNothing : List ℕ → Outside Y D P S I W E Q → Outside Y D P S I W E Q → Ending → Type 0

@@ -17,7 +17,7 @@ use Rattle.tellings.specs.Json.{in_json}
 use Rattle.tellings.specs.Words.{in_words}
 use Rattle.program_endings.specs.declared.ending.Ending.{Ending}
 use Rattle.sheet_export.specs.declared.formats.Format.TheVariants as formats
-use Rattle.host_cli.specs.Tasks.{DoesBlocks, DoesBlocksInJson, DoesCheck, DoesCreate, DoesEval, DoesExport, DoesExportAt, DoesHistory, DoesLive, DoesRescue, DoesRestore, DoesRun, DoesShow, DoesShowAt, EndsWith, ExportsAs, ExportsPast, OnlyWritten, errors_of, output_of}
+use Rattle.host_cli.specs.Tasks.{DoesBlocks, DoesBlocksInJson, DoesCheck, DoesCreate, DoesEval, DoesExport, DoesExportAt, DoesHistory, DoesLive, DoesRescue, DoesRestore, DoesRun, DoesShow, DoesShowAt, EndsWith, ExportsAs, ExportsPast, LivesPartial, OnlyWritten, errors_of, output_of}
 
 module _ {Y D P S I W E Q : Type 0} where
   -- What a task isn't given stays as it was.
@@ -42,7 +42,7 @@ module _ {Y D P S I W E Q : Type 0} where
   LeavesAlone old new (asked.restore path changes new_path) = (new.sources ≡ old.sources) × (new.input ≡ old.input) × (new.progress ≡ old.progress)
 
 module _ {Y D P S I W E Q : Type 0} (o : OutsideView D P S I W E) where
-  -- What is done, by the task. What `live --partial` writes beside that is kept nowhere, and no part of this.
+  -- What is done, by the task.
   abbrev pub DoesTask : Outside Y D P S I W E Q → Outside Y D P S I W E Q → Ending → TaskView → Type 0
   DoesTask old new ending asked.blocks = DoesBlocks o old new ending
   DoesTask old new ending asked.blocks_json = DoesBlocksInJson o old new ending
@@ -50,7 +50,7 @@ module _ {Y D P S I W E Q : Type 0} (o : OutsideView D P S I W E) where
   DoesTask old new ending (asked.run path words) = DoesRun o old new ending path words
   DoesTask old new ending (asked.live path) = DoesLive o in_words old new ending path
   DoesTask old new ending (asked.live_json path) = DoesLive o in_json old new ending path
-  DoesTask old new ending (asked.live_partial path) = DoesLive o in_json old new ending path
+  DoesTask old new ending (asked.live_partial path) = LivesPartial o old new ending path
   DoesTask old new ending (asked.eval path words) = DoesEval o old new ending path words
   DoesTask old new ending (asked.show path) = DoesShow o old new ending path
   DoesTask old new ending (asked.show_json path) = ExportsAs o old new ending path formats.Json

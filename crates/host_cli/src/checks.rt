@@ -1,7 +1,7 @@
 //! `check`, by what its words ask for: to compare, or to accept what differs too; of one worksheet, or of several.
-ghost use Rattle.std.specs.Prelude.{◌≡◌, [], map};
+ghost use Rattle.std.specs.Prelude.{◌≡◌, []};
 ghost use Rattle.command_words.specs.Asked.{check_view};
-ghost use Rattle.host_cli.specs.Plans.{check_plan};
+ghost use Rattle.host_cli.specs.Plans.{plan_of, word_texts};
 ghost use Rattle.host_cli.specs.Tasks.{AcceptsHeld, ChecksAs, ChecksBy, ChecksPaths, Compares, ComparesEach, ComparesNext, DoesCheck, TogetherAs};
 
 use crate::outside::{Outside, Performed, Seen, System, ended, give};
@@ -26,7 +26,7 @@ struct Compared<Y: System> {
 /// `check` of the worksheet at a path, of one field after another.
 fn check_as<Y: System>(mut outside: Outside<Y>, beside: &Beside<'_>, path: &str) -> Compared<Y>
     ensures does { ChecksAs ⟦<Y as Seen>⟧.outer outside result.outside result.end path.now
-        (check_plan beside.now.manner.request.now beside.now.jobs) }
+        (plan_of beside.now) }
     ensures leaves { result.outside.input ≡ outside.input }
 {
     let files = outside.places.open_to_read(path);
@@ -49,7 +49,7 @@ fn check_together_as<Y: System>(
     path: &str,
 ) -> Compared<Y>
     ensures does { TogetherAs ⟦<Y as Seen>⟧.outer outside result.outside result.end path.now
-        (check_plan beside.now.manner.request.now beside.now.jobs) }
+        (plan_of beside.now) }
     ensures leaves { result.outside.input ≡ outside.input }
 {
     let files = outside.places.open_to_read(path);
@@ -69,7 +69,7 @@ fn check_together_as<Y: System>(
 /// for, and else one field after another.
 fn compare<Y: System>(outside: Outside<Y>, beside: &Beside<'_>, path: &str) -> Compared<Y>
     ensures does { Compares ⟦<Y as Seen>⟧.outer outside result.outside result.end path.now
-        (check_plan beside.now.manner.request.now beside.now.jobs) }
+        (plan_of beside.now) }
     ensures leaves { result.outside.input ≡ outside.input }
 {
     if beside.jobs <= 1 {
@@ -98,7 +98,7 @@ fn accept_as<Y: System>(mut outside: Outside<Y>, manner: &Manner<'_>, path: &str
 /// `check` of the worksheet at one path, with answers that are accepted or without.
 fn check_by<Y: System>(mut outside: Outside<Y>, beside: &Beside<'_>, path: &str) -> Performed<Y>
     ensures does { ChecksBy ⟦<Y as Seen>⟧.outer outside result.outside result.ending path.now
-        (check_plan beside.now.manner.request.now beside.now.jobs) }
+        (plan_of beside.now) }
     ensures leaves { result.outside.input ≡ outside.input }
 {
     if let Err(why) = outside.places.hold() {
@@ -117,7 +117,7 @@ fn check_by<Y: System>(mut outside: Outside<Y>, beside: &Beside<'_>, path: &str)
 /// One worksheet of several: a line with its path, and its check.
 fn compare_next<Y: System>(mut outside: Outside<Y>, beside: &Beside<'_>, path: &str) -> Compared<Y>
     ensures does { ComparesNext ⟦<Y as Seen>⟧.outer outside result.outside result.end path.now
-        (check_plan beside.now.manner.request.now beside.now.jobs) }
+        (plan_of beside.now) }
     ensures leaves { result.outside.input ≡ outside.input }
 {
     match tell_worksheet(path, &mut outside.output) {
@@ -136,9 +136,8 @@ fn compare_each<Y: System>(
     beside: &Beside<'_>,
     paths: &[&str],
 ) -> Performed<Y>
-    ensures does { ComparesEach ⟦<Y as Seen>⟧.outer (check_plan beside.now.manner.request.now
-        beside.now.jobs) [] (map (λ path. path.now) paths.now) outside result.outside
-        result.ending }
+    ensures does { ComparesEach ⟦<Y as Seen>⟧.outer (plan_of beside.now) [] (word_texts paths.now)
+        outside result.outside result.ending }
     ensures leaves { result.outside.input ≡ outside.input }
 {
     let mut total = Total::none();
@@ -167,7 +166,7 @@ fn check_paths<Y: System>(
     words: &CheckWords<'_>,
 ) -> Performed<Y>
     ensures does { ChecksPaths ⟦<Y as Seen>⟧.outer outside result.outside result.ending path.now
-        (check_view words.now) (check_plan beside.now.manner.request.now beside.now.jobs) }
+        (check_view words.now) (plan_of beside.now) }
     ensures leaves { result.outside.input ≡ outside.input }
 {
     if !are_several(words.paths.as_slice()) {

@@ -36,7 +36,7 @@ pub trait Seen: System {
 }
 
 impl<Y: System> Seen for Y {
-    ghost outer = { outside_view Y.Places.Places (disks_seen Y.Disk.Disk Y.Disk.closed) (source_rules Y.Sources.after Y.Sources.wakes Y.Sources.clock)
+    ghost outer = { outside_view Y.Places.Places (disks_seen Y.Disk.Disk Y.Disk.closed) (source_rules Y.Sources.after Y.Sources.wakes Y.Sources.clock) Y.Sources.begins
         (streams_seen Y.Input.Read (output_seen Y.Output.Write Y.Output.held Y.Output.flushed Y.Output.tried) Y.Errors.Write Y.Errors.tried) };
 }
 

@@ -1,9 +1,7 @@
 //! The worksheet at a path as it was, and the list of its changes.
 ghost use Rattle.std.specs.Prelude.{◌≡◌, []};
 ghost use Rattle.command_words.specs.Asked as asked;
-ghost use Rattle.offline_programs.specs.Saying.{saying};
 ghost use Rattle.program_endings.specs.PastProgram.{PastExported};
-ghost use Rattle.program_endings.specs.Records.{streams, writing};
 ghost use Rattle.sheet_export.specs.Formats as exports;
 ghost use Rattle.host_cli.specs.Tasks.{DoesExportAt, DoesHistory, DoesRestore, DoesShowAt, ExportsAfter, ExportsPast, RestoresAfter, ShowsAfter};
 ghost use Rattle.host_cli.specs.WholeProgram.{LeavesAlone};
@@ -12,8 +10,8 @@ use crate::outside::{Outside, Seen, System};
 use crate::refusing::{refuse_changes, refuse_format};
 use offline_programs::Says;
 use program_endings::{
-    Ending, ExportForm, end_past, end_unheld, read_past, run_export_past, run_history, run_rescue,
-    run_show_past,
+    Both, Ending, ExportForm, end_past, end_unheld, read_past, run_export_past, run_history,
+    run_rescue, run_show_past,
 };
 use recovery::Rescued;
 use sheet_export::{Format, format_named, last_part};
@@ -100,8 +98,7 @@ fn export_found<D: Close, W: Write, E: Says>(
     errors: &mut E,
 ) -> Ending
     ensures { PastExported D.closed found form.now.format (exports.last_part form.now.path.now)
-        (streams (writing W.contents output.old output.new) (saying E.contents E.tried errors.old
-        errors.new)) result }
+        (⟦<(W, E) as Both>⟧.streams output.old output.new errors.old errors.new) result }
 {
     let form = titled(form.format, form.path);
     run_export_past(alloc, found, &form, output, errors)

@@ -1,7 +1,7 @@
 //! What the words of `eval` ask for, and what those of `check` do beside its request.
-ghost use Rattle.std.specs.Prelude.{◌≡◌, Err, IfErr, IfOk, Ok, map, option_map, true};
+ghost use Rattle.std.specs.Prelude.{◌≡◌, Err, IfErr, IfOk, Ok, true};
 ghost use Rattle.command_words.specs.Asked.{eval_view};
-ghost use Rattle.host_cli.specs.Plans.{AsksNoPlan, AsksPlan, check_jobs_asked, check_jobs_by, from_asked, jobs_asked, jobs_by, jobs_unwritten, numbers_of_several, limit_asked, named_asked, numbers_in, several_refused, spared_asked, which_asked};
+ghost use Rattle.host_cli.specs.Plans.{AsksNoPlan, AsksPlan, check_jobs_asked, check_jobs_by, from_asked, jobs_asked, jobs_by, jobs_unwritten, numbers_of_several, limit_asked, named_asked, numbers_in, several_refused, spared_asked, word_text, word_texts, which_asked};
 ghost use Rattle.host_cli.specs.Plans as plan;
 ghost use Rattle.host_cli.specs.inside.Reading.{IsWhy};
 
@@ -59,7 +59,7 @@ pub enum SeveralFault {
 
 /// The time that a field may take, where there is a limit. None where the words name no time.
 pub(crate) fn read_limit(text: Option<&str>) -> Option<Option<u32>>
-    ensures { result ≡ limit_asked (option_map (λ text. text.now) text.entry) }
+    ensures { result ≡ limit_asked (word_text text.entry) }
 {
     let Some(text) = text else {
         return Some(None);
@@ -79,7 +79,7 @@ pub(crate) fn read_limit(text: Option<&str>) -> Option<Option<u32>>
 /// In how many sessions fields may wait at a time where no words write that: one where an evaluation is strict or a
 /// check accepts, and where there is a limit of time.
 fn unwritten_jobs(in_turn: bool, timeout: Option<&str>) -> u32
-    ensures { result ≡ jobs_unwritten in_turn (option_map (λ text. text.now) timeout.entry) }
+    ensures { result ≡ jobs_unwritten in_turn (word_text timeout.entry) }
 {
     if in_turn {
         return 1;
@@ -92,8 +92,7 @@ fn unwritten_jobs(in_turn: bool, timeout: Option<&str>) -> u32
 
 /// In how many sessions fields may wait at a time, by the words that write it, and those of the limit of time.
 fn read_jobs(text: Option<&str>, strict: bool, timeout: Option<&str>) -> Result<u32, PlanFault>
-    ensures { result ≡ jobs_asked (option_map (λ text. text.now) text.entry) strict
-        (option_map (λ text. text.now) timeout.entry) }
+    ensures { result ≡ jobs_asked (word_text text.entry) strict (word_text timeout.entry) }
 {
     let Some(text) = text else {
         return Ok(unwritten_jobs(strict, timeout));
@@ -138,8 +137,7 @@ pub(crate) fn read_check_jobs(
     accept: bool,
     timeout: Option<&str>,
 ) -> Result<u32, JobsFault>
-    ensures { result ≡ check_jobs_asked (option_map (λ text. text.now) text.entry) accept
-        (option_map (λ text. text.now) timeout.entry) }
+    ensures { result ≡ check_jobs_asked (word_text text.entry) accept (word_text timeout.entry) }
 {
     let Some(text) = text else {
         return Ok(unwritten_jobs(accept, timeout));
@@ -158,15 +156,14 @@ pub(crate) fn read_check_jobs(
 
 /// Whether these are the paths of several worksheets.
 pub(crate) fn are_several(paths: &[&str]) -> bool
-    ensures { result ≡ plan.are_several (map (λ path. path.now) paths.now) }
+    ensures { result ≡ plan.are_several (word_texts paths.now) }
 {
     paths.len() > 1
 }
 
 /// Whether numbers of fields are named, which no several worksheets have alike.
 fn refuse_numbers(left_out: Option<&str>, compared: Option<&str>) -> Option<SeveralFault>
-    ensures { result ≡ numbers_of_several (option_map (λ text. text.now) left_out.entry)
-        (option_map (λ text. text.now) compared.entry) }
+    ensures { result ≡ numbers_of_several (word_text left_out.entry) (word_text compared.entry) }
 {
     match (left_out, compared) {
         (None, None) => None,
@@ -182,8 +179,8 @@ pub(crate) fn several_fault(
     left_out: Option<&str>,
     compared: Option<&str>,
 ) -> Option<SeveralFault>
-    ensures { result ≡ several_refused format (option_map (λ text. text.now) left_out.entry)
-        (option_map (λ text. text.now) compared.entry) }
+    ensures { result ≡ several_refused format (word_text left_out.entry)
+        (word_text compared.entry) }
 {
     match format {
         Report::Text | Report::Whole => refuse_numbers(left_out, compared),
@@ -195,7 +192,7 @@ pub(crate) fn several_fault(
 /// The numbers that words write. None where one of them writes none.
 #[tactic(auto, using(crate::proofs::NumbersRead::number_steps))]
 fn read_numbers(alloc: Global, words: &[&str]) -> Result<Option<Sequence<u32>>, OutOfMemory>
-    ensures { IfOk result (λ ids. ids ≡ numbers_in (map (λ word. word.now) words.now)) }
+    ensures { IfOk result (λ ids. ids ≡ numbers_in (word_texts words.now)) }
 {
     let mut ids = Vec::new(alloc);
     for word in words {
@@ -209,8 +206,8 @@ fn read_numbers(alloc: Global, words: &[&str]) -> Result<Option<Sequence<u32>>, 
 
 /// The fields that are named, or all where none is.
 fn read_named(alloc: Global, words: &[&str]) -> Result<Which, PlanFault>
-    ensures ok { IfOk result (λ which. named_asked (map (λ word. word.now) words.now) ≡ Ok which) }
-    ensures err { IfErr result (IsWhy (named_asked (map (λ word. word.now) words.now))) }
+    ensures ok { IfOk result (λ which. named_asked (word_texts words.now) ≡ Ok which) }
+    ensures err { IfErr result (IsWhy (named_asked (word_texts words.now))) }
 {
     if words.is_empty() {
         return Ok(Which::All);
@@ -224,7 +221,7 @@ fn read_named(alloc: Global, words: &[&str]) -> Result<Which, PlanFault>
 
 /// The field with a number and those after it, where no others are named.
 fn read_from(from: &str, words: &[&str]) -> Result<Which, PlanFault>
-    ensures { result ≡ from_asked from.now (map (λ word. word.now) words.now) }
+    ensures { result ≡ from_asked from.now (word_texts words.now) }
 {
     if !words.is_empty() {
         return Err(PlanFault::Both);
@@ -237,10 +234,9 @@ fn read_from(from: &str, words: &[&str]) -> Result<Which, PlanFault>
 
 /// The fields that are asked for.
 fn read_which(alloc: Global, from: Option<&str>, words: &[&str]) -> Result<Which, PlanFault>
-    ensures ok { IfOk result (λ which. which_asked (option_map (λ text. text.now) from.entry)
-        (map (λ word. word.now) words.now) ≡ Ok which) }
-    ensures err { IfErr result (IsWhy (which_asked (option_map (λ text. text.now) from.entry)
-        (map (λ word. word.now) words.now))) }
+    ensures ok { IfOk result
+        (λ which. which_asked (word_text from.entry) (word_texts words.now) ≡ Ok which) }
+    ensures err { IfErr result (IsWhy (which_asked (word_text from.entry) (word_texts words.now))) }
 {
     match from {
         None => read_named(alloc, words),

@@ -5,14 +5,13 @@ ghost use Rattle.clap.specs.Words.{kind_of};
 ghost use Rattle.clap.specs.declared.error.kind.ErrorKind.TheVariants as kind;
 ghost use Rattle.host_cli.specs.Refused.{RefusesJobs, RefusesPlan, RefusesRequest, RefusesSeveral, RefusesWith, RefusesWords, ShowsHelp, ShowsText, no_check_seconds_text, no_changes_text, no_format_text, no_run_seconds_text};
 ghost use Rattle.program_endings.specs.Ending.{TellsFault};
-ghost use Rattle.offline_programs.specs.Saying.{saying};
 ghost use Rattle.offline_programs.specs.declared.fault.RunFault.TheVariants as fault;
 
 use crate::plans::{JobsFault, PlanFault, SeveralFault};
 use check_report::RequestFault;
 use clap::error::ErrorKind;
 use offline_programs::{Message, RunFault, Says};
-use program_endings::{Ending, end_program};
+use program_endings::{Ending, Heard, end_program};
 use sheet_text::WriteFault;
 use std::io;
 use std::io::Write;
@@ -60,16 +59,16 @@ impl Message for Text<'_> {
 /// and why the words are refused to `errors`. Help that can't be written is `Output`, and lack of
 /// memory is reported as the program's own.
 pub fn refuse_words<W: Says, E: Says>(error: &clap::Error, output: &mut W, errors: &mut E) -> Ending
-    ensures memory { kind_of error.now ≡ kind.OutOfMemory
-        → (output.new ≡ output.old) × (result.status ≡ 1)
-        × TellsFault (saying E.contents E.tried errors.old errors.new) result.reported
+    ensures memory { kind_of error.now ≡ kind.OutOfMemory → (output.new ≡ output.old)
+        × (result.status ≡ 1)
+        × TellsFault (⟦<E as Heard>⟧.said errors.old errors.new) result.reported
         (Err fault.OutOfMemory) }
     ensures shown { ShowsText (kind_of error.now)
-        → ShowsHelp (saying W.contents W.tried output.old output.new)
-        (saying E.contents E.tried errors.old errors.new) result }
+        → ShowsHelp (⟦<W as Heard>⟧.said output.old output.new)
+        (⟦<E as Heard>⟧.said errors.old errors.new) result }
     ensures refused { kind_of error.now ≢ kind.OutOfMemory → (ShowsText (kind_of error.now) → ⊥)
-        → (output.new ≡ output.old) × RefusesWords (saying E.contents E.tried errors.old errors.new)
-        result }
+        → (output.new ≡ output.old)
+        × RefusesWords (⟦<E as Heard>⟧.said errors.old errors.new) result }
 {
     match error.kind() {
         ErrorKind::OutOfMemory => end_program(Err(RunFault::OutOfMemory), errors),
@@ -90,9 +89,8 @@ pub fn refuse_words<W: Says, E: Says>(error: &clap::Error, output: &mut W, error
 /// Ends the program where its words can't be had: a word that is not UTF-8 gives status 2 without a
 /// text, and lack of memory is reported.
 pub fn refuse_unread_words<E: Says>(kind: io::ErrorKind, errors: &mut E) -> Ending
-    ensures memory { kind ≡ io_kind.OutOfMemory
-        → (result.status ≡ 1)
-        × TellsFault (saying E.contents E.tried errors.old errors.new) result.reported
+    ensures memory { kind ≡ io_kind.OutOfMemory → (result.status ≡ 1)
+        × TellsFault (⟦<E as Heard>⟧.said errors.old errors.new) result.reported
         (Err fault.OutOfMemory) }
     ensures refused { kind ≢ io_kind.OutOfMemory
         → (errors.new ≡ errors.old) × (result.status ≡ 2) }
@@ -105,14 +103,14 @@ pub fn refuse_unread_words<E: Says>(kind: io::ErrorKind, errors: &mut E) -> Endi
 
 /// Refuses words that ask for nothing that there is, with this text.
 fn refuse_with<E: Says>(text: &[u8], errors: &mut E) -> Ending
-    ensures { RefusesWith text.now (saying E.contents E.tried errors.old errors.new) result }
+    ensures { RefusesWith text.now (⟦<E as Heard>⟧.said errors.old errors.new) result }
 {
     refused(errors.say(&Text { bytes: text }))
 }
 
 /// Refuses words that ask for a format that there isn't.
 pub(crate) fn refuse_format<E: Says>(errors: &mut E) -> Ending
-    ensures { RefusesWith no_format_text (saying E.contents E.tried errors.old errors.new) result }
+    ensures { RefusesWith no_format_text (⟦<E as Heard>⟧.said errors.old errors.new) result }
 {
     refuse_with(
         b"error: there is no such format: FORMAT is script, markdown, html, notebook or json\n\n\
@@ -123,7 +121,7 @@ pub(crate) fn refuse_format<E: Says>(errors: &mut E) -> Ending
 
 /// Refuses words that name no number of changes.
 pub(crate) fn refuse_changes<E: Says>(errors: &mut E) -> Ending
-    ensures { RefusesWith no_changes_text (saying E.contents E.tried errors.old errors.new) result }
+    ensures { RefusesWith no_changes_text (⟦<E as Heard>⟧.said errors.old errors.new) result }
 {
     refuse_with(
         b"error: this is no number of changes: N is a number, as `tmhost history` lists them\n\n\
@@ -134,7 +132,7 @@ pub(crate) fn refuse_changes<E: Says>(errors: &mut E) -> Ending
 
 /// Ends the program where the words of `eval` ask for nothing that there is.
 pub(crate) fn refuse_plan<E: Says>(why: PlanFault, errors: &mut E) -> Ending
-    ensures { RefusesPlan why (saying E.contents E.tried errors.old errors.new) result }
+    ensures { RefusesPlan why (⟦<E as Heard>⟧.said errors.old errors.new) result }
 {
     match why {
         PlanFault::Seconds => refuse_with(
@@ -173,8 +171,7 @@ pub(crate) fn refuse_plan<E: Says>(why: PlanFault, errors: &mut E) -> Ending
 
 /// Refuses words of `run` that name no time.
 pub(crate) fn refuse_run_limit<E: Says>(errors: &mut E) -> Ending
-    ensures { RefusesWith no_run_seconds_text (saying E.contents E.tried errors.old errors.new)
-        result }
+    ensures { RefusesWith no_run_seconds_text (⟦<E as Heard>⟧.said errors.old errors.new) result }
 {
     refuse_with(
         b"error: this is no time: SECONDS is a number from 1 to 1000000\n\n\
@@ -185,8 +182,7 @@ pub(crate) fn refuse_run_limit<E: Says>(errors: &mut E) -> Ending
 
 /// Refuses words of `check` that name no time.
 pub(crate) fn refuse_check_limit<E: Says>(errors: &mut E) -> Ending
-    ensures { RefusesWith no_check_seconds_text (saying E.contents E.tried errors.old errors.new)
-        result }
+    ensures { RefusesWith no_check_seconds_text (⟦<E as Heard>⟧.said errors.old errors.new) result }
 {
     refuse_with(
         b"error: this is no time: SECONDS is a number from 1 to 1000000\n\n\
@@ -197,7 +193,7 @@ pub(crate) fn refuse_check_limit<E: Says>(errors: &mut E) -> Ending
 
 /// Refuses words of `check` that name no number of sessions.
 pub(crate) fn refuse_jobs<E: Says>(why: JobsFault, errors: &mut E) -> Ending
-    ensures { RefusesJobs why (saying E.contents E.tried errors.old errors.new) result }
+    ensures { RefusesJobs why (⟦<E as Heard>⟧.said errors.old errors.new) result }
 {
     match why {
         JobsFault::Number => refuse_with(
@@ -215,7 +211,7 @@ pub(crate) fn refuse_jobs<E: Says>(why: JobsFault, errors: &mut E) -> Ending
 
 /// Refuses words of `check` that ask for more of several worksheets than there is.
 pub(crate) fn refuse_several<E: Says>(why: SeveralFault, errors: &mut E) -> Ending
-    ensures { RefusesSeveral why (saying E.contents E.tried errors.old errors.new) result }
+    ensures { RefusesSeveral why (⟦<E as Heard>⟧.said errors.old errors.new) result }
 {
     match why {
         SeveralFault::Format => refuse_with(
@@ -243,7 +239,7 @@ pub(crate) fn refuse_several<E: Says>(why: SeveralFault, errors: &mut E) -> Endi
 
 /// Ends the program where the words of `check` ask for none.
 pub(crate) fn refuse_request<E: Says>(why: RequestFault, errors: &mut E) -> Ending
-    ensures { RefusesRequest why (saying E.contents E.tried errors.old errors.new) result }
+    ensures { RefusesRequest why (⟦<E as Heard>⟧.said errors.old errors.new) result }
 {
     match why {
         RequestFault::Format => refuse_with(

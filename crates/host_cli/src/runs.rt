@@ -1,7 +1,7 @@
 //! `run` and `live` over the worksheet at a path, with lines of the input.
 ghost use Rattle.std.specs.Prelude.{◌≡◌};
 ghost use Rattle.command_words.specs.Asked.{run_view};
-ghost use Rattle.host_cli.specs.Tasks.{DoesLive, DoesRun, LivesAs, RunsScript};
+ghost use Rattle.host_cli.specs.Tasks.{DoesLive, DoesRun, LivesAs, LivesPartial, RunsScript};
 ghost use Rattle.tellings.specs.Json.{in_json};
 ghost use Rattle.tellings.specs.Words.{in_words};
 
@@ -106,8 +106,7 @@ pub(crate) fn live_partial_at<Y: System>(
     mut outside: Outside<Y>,
     path: &str,
 ) -> Performed<Y>
-    ensures does { DoesLive ⟦<Y as Seen>⟧.outer in_json outside result.outside result.ending
-        path.now }
+    ensures does { LivesPartial ⟦<Y as Seen>⟧.outer outside result.outside result.ending path.now }
     ensures leaves { result.outside.progress ≡ outside.progress }
 {
     outside.sources.tell_partial();

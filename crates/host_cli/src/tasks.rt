@@ -5,7 +5,6 @@ ghost use Rattle.command_words.specs.Asked as asked;
 ghost use Rattle.host_cli.specs.Tasks.{DoesCreate, DoesEval, DoesExport, DoesRescue, DoesShow, EvaluatesAs, ExportsAs, voice_by};
 ghost use Rattle.host_cli.specs.WholeProgram.{FlushesOutput, DoesTask, EndsWithin, LeavesAlone, Performs};
 ghost use Rattle.program_endings.specs.Ending.{TellsFault};
-ghost use Rattle.offline_programs.specs.Saying.{saying};
 ghost use Rattle.offline_programs.specs.declared.fault.RunFault.TheVariants as fault;
 
 use crate::blocks::{blocks, blocks_in_json};
@@ -22,8 +21,8 @@ use command_words::{EvalWords, Task, read_words};
 use evaluation::Plan;
 use offline_programs::{RunFault, Says};
 use program_endings::{
-    Ending, FieldSetting, Given, GivenBack, end_program, end_unheld, read_rescued, run_create,
-    run_evaluation, run_export, run_rescue, run_show,
+    Ending, FieldSetting, Given, GivenBack, Heard, end_program, end_unheld, read_rescued,
+    run_create, run_evaluation, run_export, run_rescue, run_show,
 };
 use sheet_export::{Format, format_named};
 use sheet_files::Places;
@@ -246,7 +245,7 @@ pub fn do_task<Y: System>(alloc: Global, task: Task<'_>, mut outside: Outside<Y>
 fn end_unsent<E: Says>(alone: Ending, errors: &mut E) -> Ending
     ensures same { alone.status ≡ 1 → (result ≡ alone) × (errors.new ≡ errors.old) }
     ensures unsent { alone.status ≢ 1 → (result.status ≡ 1)
-        × TellsFault (saying E.contents E.tried errors.old errors.new) result.reported
+        × TellsFault (⟦<E as Heard>⟧.said errors.old errors.new) result.reported
         (Err fault.Output) }
 {
     if alone.status == 1 {

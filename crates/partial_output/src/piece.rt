@@ -74,6 +74,7 @@ impl<W: Write + Drop> Beside<W> {
 
     /// From now on it gets pieces.
     pub fn begin(&mut self)
+        ensures tells { self.new.tells ≡ true }
         ensures writer { self.new.writer ≡ self.old.writer }
     {
         self.tells = true;

@@ -1,5 +1,7 @@
 //! Sources whose interpreters are listened to.
-ghost use Rattle.std.specs.Prelude.{◌≡◌};
+ghost use Rattle.std.specs.Prelude.{◌≡◌, IsErr, false, true};
+ghost use Rattle.child_calls.specs.Answers.{received};
+ghost use Rattle.partial_output.specs.Beside.{WritesBeside, received_text};
 
 use crate::piece::Beside;
 use arrivals::{Input, Sources, WatchFault, Woken};
@@ -7,37 +9,33 @@ use block_tree::Octets;
 use child_calls::{ChildFault, Children, ReceiveFault, Received, Seat};
 use std::alloc::Global;
 use std::io::Write;
-use std::marker::Model;
 use worksheet::Name;
 
 /// Sources that can write out what their interpreters write before it is an answer.
 pub trait TellsPartial: Sources {
-    /// From now on each piece is written out that is received and ends no block. That is nobody's promise, so it changes nothing of
-    /// what the sources are.
+    /// The sources before they begin to, and after.
+    ghost begins: { Self → Self → Type 0 };
+
+    /// From now on each piece is written out that is received and ends no block.
     fn tell_partial(&mut self)
-        ensures { self.new ≡ self.old };
+        ensures { begins self.old self.new };
 }
 
 /// Sources, and the writer to which a piece goes that ends no block, as a line of JSON, where that was asked for.
 ///
-/// Each call is handed on as it is. A contract sees the sources alone: what is written beside is kept nowhere and is no answer. Where
-/// there is no memory for a line, or the writer fails, nothing more is written.
+/// Each call is handed on as it is. The relations of these sources say what is written beside at each: nothing, where that wasn't asked
+/// for; else the line of a piece that was received. Where there is no memory for a line, or the writer fails, nothing more is written.
 #[derive(Drop)]
 pub struct Partial<S: Sources + Drop, W: Write + Drop> {
     sources: S,
     beside: Beside<W>,
 }
 
-impl<S: Sources + Drop, W: Write + Drop> Model for Partial<S, W> {
-    ghost Value = { S };
-
-    ghost view = { λ partial. partial.sources };
-}
-
 impl<S: Sources + Drop, W: Write + Drop> Partial<S, W> {
     /// These sources, and this writer. Nothing is written yet.
     pub fn new(alloc: Global, sources: S, writer: W) -> Partial<S, W>
-        ensures { result ≡ sources }
+        ensures sources { result.sources ≡ sources }
+        ensures silent { result.beside.tells ≡ false }
     {
         Partial {
             sources,
@@ -46,10 +44,14 @@ impl<S: Sources + Drop, W: Write + Drop> Partial<S, W> {
     }
 
     /// Writes out what was received, where it is such a piece.
-    fn tell_received(&mut self, seat: Seat, received: &Result<Received, ReceiveFault>)
-        ensures { self.new ≡ self.old }
+    #[tactic(auto, using(crate::proofs::Nothing::nothing))]
+    fn tell_received(&mut self, seat: Seat, came: &Result<Received, ReceiveFault>)
+        ensures sources { self.new.sources ≡ self.old.sources }
+        ensures beside { WritesBeside W.contents self.old.beside
+            (received_text seat.name seat.life (received came.now)) self.new.beside }
+        ensures fault { IsErr came.now → self.new ≡ self.old }
     {
-        match received {
+        match came {
             Ok(Received::Piece(piece)) => self.beside.tell(seat, piece.as_slice()),
             Ok(Received::End) | Err(_) => {}
         }
@@ -57,13 +59,19 @@ impl<S: Sources + Drop, W: Write + Drop> Partial<S, W> {
 }
 
 impl<S: Sources + Drop, W: Write + Drop> TellsPartial for Partial<S, W> {
+    ghost begins = { λ old new. (new.sources ≡ old.sources) × (new.beside.writer ≡ old.beside.writer) × (new.beside.tells ≡ true) };
+
     fn tell_partial(&mut self) {
         self.beside.begin();
     }
 }
 
+#[tactic(auto, using(crate::proofs::Nothing::nothing))]
 impl<S: Sources + Drop, W: Write + Drop> Children for Partial<S, W> {
-    ghost after = { S.after };
+    ghost use Rattle.partial_output.specs.Beside.{WritesBeside, text_beside};
+
+    ghost after = { λ old call answer new. S.after old.sources call answer new.sources
+        × WritesBeside W.contents old.beside (text_beside call answer) new.beside };
 
     fn start(&mut self, name: Name, life: u32, words: &[Octets]) -> Result<(), ChildFault> {
         self.sources.start(name, life, words)
@@ -89,9 +97,9 @@ impl<S: Sources + Drop, W: Write + Drop> Children for Partial<S, W> {
 }
 
 impl<S: Sources + Drop, W: Write + Drop> Sources for Partial<S, W> {
-    ghost wakes = { S.wakes };
+    ghost wakes = { λ old asked woken new. S.wakes old.sources asked woken new.sources × (new.beside ≡ old.beside) };
 
-    ghost clock = { S.clock };
+    ghost clock = { λ partial time. S.clock partial.sources time };
 
     fn now(&self) -> u64 {
         self.sources.now()

@@ -19,17 +19,17 @@ use Rattle.offline_programs.specs.declared.fault.RunFault.{RunFault}
 use Rattle.sheet_files.specs.Closing.{Closable}
 use Rattle.tellings.specs.Voice.{Voice}
 use Rattle.program_endings.specs.EvalProgram.{AnswersAfter, EvaluatesTo, EvaluationAnswer, eval_rules, eval_setting}
-use Rattle.program_endings.specs.Records.{calling, given_disk, writing}
+use Rattle.program_endings.specs.Records.{calling, given_disk, run_of, writing}
 
 module _ {P C W : Type 0} (finds : P → Finds) (V : Voice) (contents : W → Option (List ℕ)) (held : Option (List ℕ) → DiskView → Type 0) (s : SourceRules C) (plan : Plan) (programs : P) where
   abbrev field_rules : Rules (ByFields P) C PrintedSoFar
-  field_rules = eval_rules (eval_setting plan programs finds V s held)
+  field_rules = eval_rules (eval_setting plan programs finds V held) s
 
   pub evaluates : {D : Type 0} (k : Closable D) (disk later : D) (c d : C) (old new : W) (whole : Bool) (begun done : ByFields P) (run : Result (Unit {0}) RunFault) (answer : EvaluationAnswer)
       → begun ≡ first_fields plan programs
       → Over field_rules (program_parts (k.view disk) c (printed_so_far (contents old) true) begun) (program_parts (k.view later) d (printed_so_far (contents new) whole) done) run
       → k.closed later → SameDisk (k.view disk) (k.view later) → AnswersAfter run done.stage answer
-      → EvaluatesTo (eval_setting plan programs finds V s held) (given_disk k disk) (calling c d) (writing contents old new) whole answer
+      → EvaluatesTo (eval_setting plan programs finds V held) (run_of (given_disk k disk) s (calling c d) (writing contents old new)) whole answer
   evaluates k disk later c d old new whole begun done run answer at over closed same answers = record {
     later = later;
     closed = closed;

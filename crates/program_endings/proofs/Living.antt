@@ -28,7 +28,7 @@ use Rattle.offline_programs.specs.declared.fault.RunFault.{RunFault}
 use Rattle.sheet_files.specs.Closing.{Closable}
 use Rattle.tellings.specs.Voice.{Voice}
 use Rattle.program_endings.specs.LiveProgram.{FaultReported, FaultedBy, LiveBegun, LiveSetting, LivedEnds, LivesOn, answer_after, is_printed, live_setting, lived}
-use Rattle.program_endings.specs.Records.{GivenDisk, Writing, calling, given_disk, writing}
+use Rattle.program_endings.specs.Records.{GivenDisk, Writing, calling, given_disk, run_of, writing}
 use Rattle.program_endings.specs.StrictProgram.{StrictAnswer}
 
 -- An agenda of lines before the first of them.
@@ -78,7 +78,7 @@ module _ {I C W : Type 0} (remaining : I → Option (List ℕ)) (V : Voice) (con
       → lines_stand remaining begun ≡ first_lines m stream
       → Over given_rules (program_parts (k.view disk) c (printed_so_far (contents old) true) begun) (program_parts (k.view later) d (printed_so_far (contents new) whole) done) run
       → k.closed later → SameDisk (k.view disk) (k.view later) → answer ≡ answer_after run (lines_stand remaining done)
-      → LivesOn (live_setting m V s held) stream (given_disk k disk) (calling c d) (writing contents old new) whole answer
+      → LivesOn (live_setting m V held) stream (run_of (given_disk k disk) s (calling c d) (writing contents old new)) whole answer
   lives k disk later c d old new whole begun done stream run answer at over closed same is = record {
     later = later;
     closed = closed;
@@ -97,15 +97,15 @@ module _ {I C W : Type 0} (remaining : I → Option (List ℕ)) (V : Voice) (con
 
 -- What stands last.
 
-module _ {D C O : Type 0} (o : LiveSetting C) (stream : Option (List ℕ)) (g : GivenDisk D) (contents : O → Option (List ℕ)) where
-  pub lived_so : (c d e : C) (first last new : O) (run_answer : StrictAnswer) (whole reported : Bool) (answer : StrictAnswer) → e ≡ d → LivesOn o stream g (calling c d) (writing contents first last) whole run_answer
-      → LivedEnds o.voice (writing contents last new) run_answer whole reported answer → LiveBegun o stream g (calling c e) (writing contents first new) reported answer
+module _ {D C O : Type 0} (o : LiveSetting) (stream : Option (List ℕ)) (g : GivenDisk D) (s : SourceRules C) (contents : O → Option (List ℕ)) where
+  pub lived_so : (c d e : C) (first last new : O) (run_answer : StrictAnswer) (whole reported : Bool) (answer : StrictAnswer) → e ≡ d → LivesOn o stream (run_of g s (calling c d) (writing contents first last)) whole run_answer
+      → LivedEnds o.voice (writing contents last new) run_answer whole reported answer → LiveBegun o stream (run_of g s (calling c e) (writing contents first new)) reported answer
   lived_so c d e first last new run_answer whole reported answer is on ends =
-      lived last run_answer whole (subst (λ (x : C). LivesOn o stream g (calling c x) (writing contents first last) whole run_answer) (sym is) on) ends
+      lived last run_answer whole (subst (λ (x : C). LivesOn o stream (run_of g s (calling c x) (writing contents first last)) whole run_answer) (sym is) on) ends
 
-  pub begun_of : (given : Option (List ℕ)) (c d : C) (first new : O) (reported : Bool) (answer : StrictAnswer) → given ≡ stream → LiveBegun o given g (calling c d) (writing contents first new) reported answer
-      → LiveBegun o stream g (calling c d) (writing contents first new) reported answer
-  begun_of given c d first new reported answer is begun = subst (λ (x : Option (List ℕ)). LiveBegun o x g (calling c d) (writing contents first new) reported answer) is begun
+  pub begun_of : (given : Option (List ℕ)) (c d : C) (first new : O) (reported : Bool) (answer : StrictAnswer) → given ≡ stream → LiveBegun o given (run_of g s (calling c d) (writing contents first new)) reported answer
+      → LiveBegun o stream (run_of g s (calling c d) (writing contents first new)) reported answer
+  begun_of given c d first new reported answer is begun = subst (λ (x : Option (List ℕ)). LiveBegun o x (run_of g s (calling c d) (writing contents first new)) reported answer) is begun
 
 -- a fault that the run printed, or that is printed now
 pub faulted_by : {O : Type 0} (V : Voice) (w : Writing O) (whole reported : Bool) (why : RunFault) (asked by : Bool) → asked ≡ is_printed why → asked ≡ by → FaultedBy by V w whole reported why → FaultedBy (is_printed why) V w whole reported why

@@ -2,19 +2,21 @@
 use Rattle.std.specs.Prelude.{◌≡◌, ◌==◌, ◌&&◌, Bool, Result, Ok, Err, IfErr, IfOk}
 use Rattle.disk_model.specs.Disk.{Rises}
 use Rattle.journal.specs.declared.opening.OpenCause.TheVariants as opens
-use Rattle.sheet_check.specs.Accept.{AcceptAnswer}
+use Rattle.sheet_check.specs.Accept.{AcceptAnswer, accepting_by}
 use Rattle.sheet_check.specs.Check.{passage}
 use Rattle.sheet_check.specs.Evaluated.{OneByOne}
 use Rattle.check_report.specs.declared.chosen.Chosen.{Chosen}
+use Rattle.check_report.specs.declared.request.Request.{Request}
 use Rattle.check_report.specs.declared.verdict.Counts.{Counts}
+use Rattle.driver.specs.Place.{SourceRules}
+use Rattle.offline_programs.specs.Saying.{Saying}
 use Rattle.offline_programs.specs.declared.fault.RunFault.TheVariants as fault
 use Rattle.sheet_check.specs.declared.named.CheckFault.{CheckFault}
 use Rattle.sheet_check.specs.declared.named.CheckFault.TheVariants as checks
 use Rattle.program_endings.specs.CheckProgram.{CheckedAnswer, EndsChecked, finds_any}
 use Rattle.program_endings.specs.Programs.{EndsUnopened}
-use Rattle.program_endings.specs.Records.{Calling, DoesNothing, GivenDisk, Streams, given_disk, text_after, text_before, view_given}
+use Rattle.program_endings.specs.Records.{DoesNothing, ProgramPassage, ProgramRun, run_on, text_after, text_before, view_given}
 use Rattle.program_endings.specs.declared.ending.Ending.{Ending}
-use Rattle.sheet_files.specs.Closing.{Closable}
 use Rattle.sheet_files.specs.declared.files_fault.FilesFault.{FilesFault}
 
 -- no field was left unanswered, and where those of one session are asked for, any was checked
@@ -26,19 +28,24 @@ abbrev pub answer_of_acceptance : Chosen → Result Counts CheckFault → Checke
 answer_of_acceptance chosen (Ok counts) = Ok (accepts_all chosen counts)
 answer_of_acceptance chosen (Err why) = Err why
 
+-- fields one after another, as a request that accepts asks for it, where the sources may do this
+abbrev pub accepting_from : {C : Type 0} → SourceRules C → Request → OneByOne C
+accepting_from sources request = accepting_by sources.after sources.clock sources.wakes request
+
 -- The check of the worksheet on a disk, what it called, wrote and accepted, and how the program ends: the status follows from the counts.
-pub record AcceptDone {D C W E : Type 0} (o : OneByOne C) (g : GivenDisk D) (q : Calling C) (s : Streams W E) (ending : Ending) : Type 0 where
+pub record AcceptDone {D C W E : Type 0} (request : Request) (r : ProgramRun D C W) (e : Saying E) (ending : Ending) : Type 0 where
   -- the disk, as it was closed
   pub later : D
-  pub closed : g.how.closed later
+  pub closed : r.given.how.closed later
   pub answer : Result Counts CheckFault
-  pub accepted : AcceptAnswer o (view_given g) (g.how.view later) (passage q.old q.new (text_before s.output) (text_after s.output)) (DoesNothing q s.output) answer
+  pub accepted : AcceptAnswer (accepting_from r.rules request) (view_given r.given) (r.given.how.view later) (passage r.called.old r.called.new (text_before r.wrote) (text_after r.wrote))
+      (DoesNothing r.called r.wrote) answer
   -- that the disk failed at the opening is reported only where it did
-  pub failed : answer ≡ Err (checks.Run (fault.Open opens.Disk)) → Rises (view_given g).faults (g.how.view later).faults
+  pub failed : answer ≡ Err (checks.Run (fault.Open opens.Disk)) → Rises (view_given r.given).faults (r.given.how.view later).faults
   -- lack of memory at the opening is reported only where no call of the disk failed
-  pub memory : answer ≡ Err (checks.Run (fault.Open opens.OutOfMemory)) → (g.how.view later).faults ≡ (view_given g).faults
-  pub ends : EndsChecked s.errors ending (answer_of_acceptance o.chosen answer)
+  pub memory : answer ≡ Err (checks.Run (fault.Open opens.OutOfMemory)) → (r.given.how.view later).faults ≡ (view_given r.given).faults
+  pub ends : EndsChecked e ending (answer_of_acceptance request.chosen answer)
 
 -- how `check --accept` ends on its files, or on why they weren't opened
-abbrev pub AcceptEnds : {D C W E : Type 0} → Closable D → OneByOne C → Result D FilesFault → Calling C → Streams W E → Ending → Type 0
-AcceptEnds k o files q s ending = IfErr files (EndsUnopened q s ending) × IfOk files (λ disk. AcceptDone o (given_disk k disk) q s ending)
+abbrev pub AcceptEnds : {D C W E : Type 0} → Request → Result D FilesFault → ProgramPassage D C W → Saying E → Ending → Type 0
+AcceptEnds request files p e ending = IfErr files (EndsUnopened p e ending) × IfOk files (λ disk. AcceptDone request (run_on p disk) e ending)

@@ -3,12 +3,14 @@ use Rattle.std.specs.Prelude.{◌≡◌, ◌==◌, ◌&&◌, ℕ, Bool, true, na
 use Rattle.disk_model.specs.Disk.{Rises}
 use Rattle.journal.specs.declared.opening.OpenCause.TheVariants as opens
 use Rattle.sheet_check.specs.Check.{CheckAnswer, OnlyRead, passage}
-use Rattle.sheet_check.specs.Evaluated.{OneByOne}
+use Rattle.sheet_check.specs.Evaluated.{OneByOne, checking_by}
 use Rattle.check_report.specs.declared.chosen.Chosen.{Chosen}
 use Rattle.check_report.specs.declared.report.Format.{Format}
 use Rattle.check_report.specs.declared.report.Format.TheVariants as format
+use Rattle.check_report.specs.declared.request.Request.{Request}
 use Rattle.check_report.specs.declared.verdict.Counts.{Counts}
 use Rattle.check_report.specs.Verdicts.{total}
+use Rattle.driver.specs.Place.{SourceRules}
 use Rattle.evaluation.specs.declared.fault.EvalFault.TheVariants as evals
 use Rattle.offline_programs.specs.Saying.{Saying}
 use Rattle.offline_programs.specs.declared.fault.RunFault.TheVariants as fault
@@ -21,9 +23,8 @@ use Rattle.program_endings.specs.LiveProgram.{LastReported}
 use Rattle.program_endings.specs.declared.ending.Ending.{Ending}
 use Rattle.tellings.specs.Json.{in_json}
 use Rattle.tellings.specs.declared.note.Frame.TheVariants as frame
-use Rattle.program_endings.specs.Records.{Calling, DoesNothing, GivenDisk, Streams, Writing, given_disk, text_before, view_given, writing}
+use Rattle.program_endings.specs.Records.{DoesNothing, ProgramPassage, ProgramRun, Writing, run_on, run_since, run_until, text_before, view_given}
 use Rattle.program_endings.specs.declared.check_program.CheckEnding.{CheckEnding}
-use Rattle.sheet_files.specs.Closing.{Closable}
 use Rattle.sheet_files.specs.declared.files_fault.FilesFault.{FilesFault}
 
 -- no output differs, and no field was left unanswered
@@ -70,26 +71,31 @@ LastOfCheck format.Tap w reported answer = w.new ≡ w.old
 LastOfCheck format.Junit w reported answer = w.new ≡ w.old
 LastOfCheck format.Accepting w reported answer = w.new ≡ w.old
 
+-- fields one after another, as a request asks for it, where the sources may do this
+abbrev pub checking_from : {C : Type 0} → SourceRules C → Request → OneByOne C
+checking_from sources request = checking_by sources.after sources.clock sources.wakes request
+
 -- The check of the worksheet on a disk, what it called and wrote, and how the program ends: the status follows from the counts.
-pub record CheckDone {D C W E : Type 0} (o : OneByOne C) (g : GivenDisk D) (q : Calling C) (s : Streams W E) (end : CheckEnding) : Type 0 where
+pub record CheckDone {D C W E : Type 0} (request : Request) (r : ProgramRun D C W) (e : Saying E) (end : CheckEnding) : Type 0 where
   -- the disk, as it was closed
   pub later : D
-  pub closed : g.how.closed later
+  pub closed : r.given.how.closed later
   pub mid : W
-  pub checked : CheckAnswer o (view_given g) (passage q.old q.new (text_before s.output) (s.output.contents mid)) (DoesNothing q (writing s.output.contents s.output.old mid)) end.answer
-  pub last_reported : LastOfCheck o.format (writing s.output.contents mid s.output.new) end.ending.reported (answer_of_check o.chosen end.answer)
-  pub read : OnlyRead (view_given g) (g.how.view later)
+  pub checked : CheckAnswer (checking_from r.rules request) (view_given r.given) (passage r.called.old r.called.new (text_before r.wrote) (r.wrote.contents mid))
+      (DoesNothing r.called (run_until r mid).wrote) end.answer
+  pub last_reported : LastOfCheck request.format (run_since r mid).wrote end.ending.reported (answer_of_check request.chosen end.answer)
+  pub read : OnlyRead (view_given r.given) (r.given.how.view later)
   -- that the disk failed is reported only where it did
-  pub failed : end.answer ≡ Err (checks.Run (fault.Open opens.Disk)) → Rises (view_given g).faults (g.how.view later).faults
+  pub failed : end.answer ≡ Err (checks.Run (fault.Open opens.Disk)) → Rises (view_given r.given).faults (r.given.how.view later).faults
   -- and where anything else is answered no call of it failed
-  pub steady : (end.answer ≡ Err (checks.Run (fault.Open opens.Disk)) → ⊥) → (g.how.view later).faults ≡ (view_given g).faults
-  pub ends : EndsChecked s.errors end.ending (answer_of_check o.chosen end.answer)
+  pub steady : (end.answer ≡ Err (checks.Run (fault.Open opens.Disk)) → ⊥) → (r.given.how.view later).faults ≡ (view_given r.given).faults
+  pub ends : EndsChecked e end.ending (answer_of_check request.chosen end.answer)
 
 -- how `check` ends where its files weren't opened: no child is called, and why is its fault
-abbrev pub CheckUnopened : {C W E : Type 0} → Format → Calling C → Streams W E → CheckEnding → FilesFault → Type 0
-CheckUnopened F q s end why = (q.new ≡ q.old) × (end.answer ≡ Err (checks.Run (no_files why))) × LastOfCheck F s.output end.ending.reported (Err (checks.Run (no_files why)))
-    × EndsAs s.errors end.ending (Err (no_files why))
+abbrev pub CheckUnopened : {D C W E : Type 0} → Format → ProgramPassage D C W → Saying E → CheckEnding → FilesFault → Type 0
+CheckUnopened F p e end why = (p.called.new ≡ p.called.old) × (end.answer ≡ Err (checks.Run (no_files why))) × LastOfCheck F p.wrote end.ending.reported (Err (checks.Run (no_files why)))
+    × EndsAs e end.ending (Err (no_files why))
 
 -- how `check` ends on its files, or on why they weren't opened
-abbrev pub CheckEnds : {D C W E : Type 0} → Closable D → OneByOne C → Result D FilesFault → Calling C → Streams W E → CheckEnding → Type 0
-CheckEnds k o files q s end = IfErr files (CheckUnopened o.format q s end) × IfOk files (λ disk. CheckDone o (given_disk k disk) q s end)
+abbrev pub CheckEnds : {D C W E : Type 0} → Request → Result D FilesFault → ProgramPassage D C W → Saying E → CheckEnding → Type 0
+CheckEnds request files p e end = IfErr files (CheckUnopened request.format p e end) × IfOk files (λ disk. CheckDone request (run_on p disk) e end)

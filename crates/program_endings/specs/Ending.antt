@@ -1,11 +1,9 @@
 -- How a program ends: its exit status, and what it says on which stream.
-use Rattle.std.specs.Prelude.{◌≡◌, ◌<◌, ◌≤◌, ℕ, Bool, true, false, List, Option, Result, Ok, Err, IfOk, IfErr, IfSome, IsErrOf, length}
-use Rattle.std.specs.Io.KnownBytes.{Appends}
-use Rattle.meta_format.specs.Limits.{limits}
+use Rattle.std.specs.Prelude.{◌≡◌, ℕ, Bool, true, false, List, Option, Result, Ok, Err, IfOk, IfErr, IfSome, IsErrOf}
 use Rattle.offline_programs.specs.Faults.{fault_text}
 use Rattle.offline_programs.specs.Saying.{IsSaid, Saying}
-use Rattle.offline_programs.specs.Input.{IsStreamFault, longest_standard_input}
-use Rattle.program_endings.specs.Printed.{Printed}
+use Rattle.offline_programs.specs.Input.{IsStreamFault}
+use Rattle.program_endings.specs.Printed.{IsLongInput, IsPrinted, IsShortInput}
 use Rattle.program_endings.specs.declared.ending.Ending.{Ending}
 use Rattle.offline_programs.specs.declared.fault.RunFault.{RunFault}
 use Rattle.offline_programs.specs.declared.fault.RunFault.TheVariants as fault
@@ -37,10 +35,10 @@ EndsAs errors ending answer = (ending.status ≡ status_of answer) × TellsFault
 -- What `blocks` answers, and what it has written then: its clauses. The stream is what the reader gives,
 -- where it is known; `contents` are the bytes that the writer holds.
 pub record BlocksAnswer {W : Type 0} (stream : Option (List ℕ)) (contents : W → Option (List ℕ)) (old new : W) (answer : ProgramAnswer) : Type 0 where
-  pub printed : IfOk answer (λ whole. IfSome stream (λ bytes. (text : List ℕ) × Printed limits bytes text whole × Appends (contents old) (contents new) text))
-  pub short : IfOk answer (λ whole. IfSome stream (λ bytes. length bytes ≤ longest_standard_input))
-  pub output_short : IsErrOf answer fault.Output → IfSome stream (λ bytes. length bytes ≤ longest_standard_input)
-  pub too_long : IsErrOf answer fault.InputTooLong → IfSome stream (λ bytes. longest_standard_input < length bytes)
+  pub printed : IfOk answer (λ whole. IfSome stream (λ bytes. IsPrinted bytes (contents old) (contents new) whole))
+  pub short : IfOk answer (λ whole. IsShortInput stream)
+  pub output_short : IsErrOf answer fault.Output → IsShortInput stream
+  pub too_long : IsErrOf answer fault.InputTooLong → IsLongInput stream
   pub faults : IfErr answer IsStreamFault
   pub nothing_at_input : IsErrOf answer fault.Input → new ≡ old
   pub nothing_at_too_long : IsErrOf answer fault.InputTooLong → new ≡ old

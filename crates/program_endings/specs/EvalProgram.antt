@@ -27,7 +27,7 @@ use Rattle.field_agenda.specs.declared.stage.Stage.{Stage}
 use Rattle.field_agenda.specs.declared.stage.Stage.TheVariants as stage
 use Rattle.program_endings.specs.LiveProgram.{FrameWithheld, EndsFaulted, FaultReported, Framed, LastReported}
 use Rattle.program_endings.specs.StrictProgram.{TellsStop}
-use Rattle.program_endings.specs.Records.{Calling, GivenDisk, Streams, Writing, text_after, text_before, view_given, writing}
+use Rattle.program_endings.specs.Records.{ProgramPassage, ProgramRun, Streams, run_on, run_since, run_until, streams, text_after, text_before, view_given}
 use Rattle.program_endings.specs.declared.ending.Ending.{Ending}
 
 -- what the program answers: where the evaluation stopped, if it did, and what it came to; or its fault
@@ -56,23 +56,22 @@ abbrev pub TellsEval : {E : Type 0} → Saying E → Bool → EvaluationAnswer �
 TellsEval errors reported (Ok end) = TellsStop errors reported (Ok end.stopped_at)
 TellsEval errors reported (Err why) = IsSaid errors (eval_fault_text why) reported
 
--- How fields are evaluated: by which plan, with which programs and how a look for one may be answered, the voice of what is printed, what the sources
--- may do, and what the output held while a disk was in which state.
-pub record EvalSetting (C P : Type 0) : Type 1 where
+-- How fields are evaluated: by which plan, with which programs and how a look for one may be answered, the voice of what is printed, and what the output
+-- held while a disk was in which state.
+pub record EvalSetting (P : Type 0) : Type 1 where
   pub plan : Plan
   pub programs : P
   pub finds : P → Finds
   pub voice : Voice
-  pub sources : SourceRules C
   pub held : Option (List ℕ) → DiskView → Type 0
 
-abbrev pub eval_setting : {C P : Type 0} → Plan → P → (P → Finds) → Voice → SourceRules C → (Option (List ℕ) → DiskView → Type 0) → EvalSetting C P
-eval_setting plan programs finds V sources held = record { plan = plan; programs = programs; finds = finds; voice = V; sources = sources; held = held }
+abbrev pub eval_setting : {P : Type 0} → Plan → P → (P → Finds) → Voice → (Option (List ℕ) → DiskView → Type 0) → EvalSetting P
+eval_setting plan programs finds V held = record { plan = plan; programs = programs; finds = finds; voice = V; held = held }
 
 -- A driver of fields: what is printed of a line is printed of that of a field. Of its sink is known what was printed, in which state of the disk, and
 -- whether all of the last text went out.
-abbrev pub eval_rules : {C P : Type 0} → EvalSetting C P → Rules (ByFields P) C PrintedSoFar
-eval_rules o = rules (fields_rules o.finds) o.sources (noting_rules (by_field_lines o.voice) o.held)
+abbrev pub eval_rules : {C P : Type 0} → EvalSetting P → SourceRules C → Rules (ByFields P) C PrintedSoFar
+eval_rules o sources = rules (fields_rules o.finds) sources (noting_rules (by_field_lines o.voice) o.held)
 
 -- What the program answers after a run, by how far it came: what the evaluation came to, or what isn't there; or the fault of the run.
 pub data AnswersAfter : Result (Unit {0}) RunFault → Stage → EvaluationAnswer → Type 0 where
@@ -83,16 +82,16 @@ pub data AnswersAfter : Result (Unit {0}) RunFault → Stage → EvaluationAnswe
 
 -- What `eval` does on a disk, which is closed then, between what stands first and last: the driver ran over it, by the plan, from before it looked for
 -- the fields and the programs on. A fault is true of the disk: that it failed is reported only where it did.
-pub record EvaluatesTo {D C O P : Type 0} (o : EvalSetting C P) (g : GivenDisk D) (q : Calling C) (w : Writing O) (whole : Bool) (answer : EvaluationAnswer) : Type 0 where
+pub record EvaluatesTo {D C O P : Type 0} (o : EvalSetting P) (r : ProgramRun D C O) (whole : Bool) (answer : EvaluationAnswer) : Type 0 where
   pub later : D
-  pub closed : g.how.closed later
-  pub same : SameDisk (view_given g) (g.how.view later)
+  pub closed : r.given.how.closed later
+  pub same : SameDisk (view_given r.given) (r.given.how.view later)
   -- where the agenda stands at the end, and how the run was answered
   pub fields : ByFields P
   pub run : Result (Unit {0}) RunFault
-  pub over : Over (eval_rules o) (program_parts (view_given g) q.old (printed_so_far (text_before w) true) (first_fields o.plan o.programs))
-      (program_parts (g.how.view later) q.new (printed_so_far (text_after w) whole) fields) run
-  pub true_of : IfErr run (λ why. IsTrueOf why (view_given g) (g.how.view later))
+  pub over : Over (eval_rules o r.rules) (program_parts (view_given r.given) r.called.old (printed_so_far (text_before r.wrote) true) (first_fields o.plan o.programs))
+      (program_parts (r.given.how.view later) r.called.new (printed_so_far (text_after r.wrote) whole) fields) run
+  pub true_of : IfErr run (λ why. IsTrueOf why (view_given r.given) (r.given.how.view later))
   pub answers : AnswersAfter run fields.stage answer
 
 -- what stands last is written whole where both streams took what they had to, and it is nothing where the voice takes no memory
@@ -117,18 +116,18 @@ abbrev pub EndsEvaluated : {O E : Type 0} → Voice → Streams O E → Bool →
 EndsEvaluated V s whole ending (Ok end) = LastOfEnd V s ending end
 EndsEvaluated V s whole ending (Err why) = LastOfFault V s whole ending why × (ending.status ≡ 1) × TellsEval s.errors ending.reported (Err why)
 
--- the same streams, of which this is the output before
-abbrev pub streams_from : {O E : Type 0} → Streams O E → O → Streams O E
-streams_from s first = record s { output = writing s.output.contents first s.output.new }
-
 -- What `eval` comes to on a disk, and how it ends, once it has greeted: it evaluated, and printed what stands last.
-abbrev pub EvaluationBegun : {D C O P E : Type 0} → EvalSetting C P → GivenDisk D → Calling C → Streams O E → Ending → Type 0
-EvaluationBegun {O = O} o g q s ending = (last : O) × (whole : Bool) × (answer : EvaluationAnswer) × EvaluatesTo o g q (writing s.output.contents s.output.old last) whole answer
-    × EndsEvaluated o.voice (streams_from s last) whole ending answer
+abbrev pub EvaluationBegun : {D C O P E : Type 0} → EvalSetting P → ProgramRun D C O → Saying E → Ending → Type 0
+EvaluationBegun {O = O} o r e ending = (last : O) × (whole : Bool) × (answer : EvaluationAnswer) × EvaluatesTo o (run_until r last) whole answer
+    × EndsEvaluated o.voice (streams (run_since r last).wrote e) whole ending answer
 
 -- The same from its greeting on.
-pub data EvaluationEnded {D C O P E : Type 0} (o : EvalSetting C P) (g : GivenDisk D) (q : Calling C) (s : Streams O E) (ending : Ending) : Type 0 where
-  greeted : (first : O) → Framed o.voice s.output.contents frame.Hello s.output.old first → EvaluationBegun o g q (streams_from s first) ending → EvaluationEnded o g q s ending
+pub data EvaluationEnded {D C O P E : Type 0} (o : EvalSetting P) (r : ProgramRun D C O) (e : Saying E) (ending : Ending) : Type 0 where
+  greeted : (first : O) → Framed o.voice r.wrote.contents frame.Hello r.wrote.old first → EvaluationBegun o (run_since r first) e ending → EvaluationEnded o r e ending
   -- it couldn't greet, and nothing was done but to close the disk
-  ungreeted : (why : RunFault) (mid : O) → FrameWithheld o.voice s.output.old mid why → LastReported {T = Bool} o.voice s.output.contents mid s.output.new ending.reported (Err why)
-      → ending.status ≡ 1 → TellsEval s.errors ending.reported (Err (evals.Run why)) → q.new ≡ q.old → g.how.closed g.disk → EvaluationEnded o g q s ending
+  ungreeted : (why : RunFault) (mid : O) → FrameWithheld o.voice r.wrote.old mid why → LastReported {T = Bool} o.voice r.wrote.contents mid r.wrote.new ending.reported (Err why)
+      → ending.status ≡ 1 → TellsEval e ending.reported (Err (evals.Run why)) → r.called.new ≡ r.called.old → r.given.how.closed r.given.disk → EvaluationEnded o r e ending
+
+-- the same of the disk that was opened
+abbrev pub EvaluationOpened : {D C O P E : Type 0} → EvalSetting P → ProgramPassage D C O → Saying E → Ending → D → Type 0
+EvaluationOpened o p e ending disk = EvaluationEnded o (run_on p disk) e ending

@@ -1,6 +1,7 @@
 pub mod Faults
 pub mod Printed
 pub mod Records
+pub mod Passing
 pub mod Ending
 pub mod BlocksProgram
 pub mod Programs

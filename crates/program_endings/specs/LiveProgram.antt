@@ -9,6 +9,7 @@ use Rattle.driver.specs.Over.{Over, program_parts}
 use Rattle.driver.specs.TrueFaults.{IsTrueOf}
 use Rattle.line_agenda.specs.LinesAt.{LinesAt, first_lines, stopped_at}
 use Rattle.line_agenda.specs.LinesRules.{lines_rules}
+use Rattle.offline_programs.specs.Saying.{Saying}
 use Rattle.offline_programs.specs.declared.fault.RunFault.{RunFault}
 use Rattle.offline_programs.specs.declared.fault.RunFault.TheVariants as fault
 use Rattle.sheet_files.specs.declared.files_fault.FilesFault.{FilesFault}
@@ -17,23 +18,22 @@ use Rattle.tellings.specs.declared.note.Frame.{Frame}
 use Rattle.tellings.specs.declared.note.Frame.TheVariants as frame
 use Rattle.program_endings.specs.Ending.{EndsAs}
 use Rattle.program_endings.specs.Faults.{no_files}
-use Rattle.program_endings.specs.Records.{Calling, GivenDisk, Streams, Writing, text_after, text_before, view_given, writing}
+use Rattle.program_endings.specs.Records.{ProgramPassage, ProgramRun, Writing, run_on, run_since, run_until, text_after, text_before, view_given, writing}
 use Rattle.program_endings.specs.StrictProgram.{StrictAnswer, TellsStop, strict_status}
 use Rattle.program_endings.specs.declared.ending.Ending.{Ending}
 
--- How lines are taken, the voice of what is printed, what the sources may do, and what the output held while a disk was in which state.
-pub record LiveSetting (C : Type 0) : Type 1 where
+-- How lines are taken, the voice of what is printed, and what the output held while a disk was in which state.
+pub record LiveSetting : Type 1 where
   pub manner : Manner
   pub voice : Voice
-  pub sources : SourceRules C
   pub held : Option (List ℕ) → DiskView → Type 0
 
-abbrev pub live_setting : {C : Type 0} → Manner → Voice → SourceRules C → (Option (List ℕ) → DiskView → Type 0) → LiveSetting C
-live_setting manner voice sources held = record { manner = manner; voice = voice; sources = sources; held = held }
+abbrev pub live_setting : Manner → Voice → (Option (List ℕ) → DiskView → Type 0) → LiveSetting
+live_setting manner voice held = record { manner = manner; voice = voice; held = held }
 
 -- a driver of lines: of its sink is known what was printed, in which state of the disk, and whether all of the last text went out
-abbrev pub live_rules : {C : Type 0} → LiveSetting C → Rules LinesAt C PrintedSoFar
-live_rules o = rules lines_rules o.sources (noting_rules o.voice o.held)
+abbrev pub live_rules : {C : Type 0} → LiveSetting → SourceRules C → Rules LinesAt C PrintedSoFar
+live_rules o sources = rules lines_rules sources (noting_rules o.voice o.held)
 
 -- what the program answers after a run: where a strict input stopped, or the fault
 abbrev pub answer_after : Result (Unit {0}) RunFault → LinesAt → StrictAnswer
@@ -42,16 +42,16 @@ answer_after (Err why) lines = Err why
 
 -- What `live` does on a disk, which is closed then, between what stands first and last: the driver ran over it, with the lines of the stream of its
 -- reader, where that is known, from before the first of them on. A fault is true of the disk: that it failed is reported only where it did.
-pub record LivesOn {D C O : Type 0} (o : LiveSetting C) (stream : Option (List ℕ)) (g : GivenDisk D) (q : Calling C) (w : Writing O) (whole : Bool) (answer : StrictAnswer) : Type 0 where
+pub record LivesOn {D C O : Type 0} (o : LiveSetting) (stream : Option (List ℕ)) (r : ProgramRun D C O) (whole : Bool) (answer : StrictAnswer) : Type 0 where
   pub later : D
-  pub closed : g.how.closed later
-  pub same : SameDisk (view_given g) (g.how.view later)
+  pub closed : r.given.how.closed later
+  pub same : SameDisk (view_given r.given) (r.given.how.view later)
   -- where the lines stand at the end, and how the run was answered
   pub lines : LinesAt
   pub run : Result (Unit {0}) RunFault
-  pub over : Over (live_rules o) (program_parts (view_given g) q.old (printed_so_far (text_before w) true) (first_lines o.manner stream))
-      (program_parts (g.how.view later) q.new (printed_so_far (text_after w) whole) lines) run
-  pub true_of : IfErr run (λ why. IsTrueOf why (view_given g) (g.how.view later))
+  pub over : Over (live_rules o r.rules) (program_parts (view_given r.given) r.called.old (printed_so_far (text_before r.wrote) true) (first_lines o.manner stream))
+      (program_parts (r.given.how.view later) r.called.new (printed_so_far (text_after r.wrote) whole) lines) run
+  pub true_of : IfErr run (λ why. IsTrueOf why (view_given r.given) (r.given.how.view later))
   pub is : answer ≡ answer_after run lines
 
 -- a run prints its own fault last, but where its output failed; that the disk isn't opened is none of a run
@@ -104,31 +104,35 @@ LivedEnds V w (Ok stopped) whole reported answer = EndsFramed V w reported stopp
 LivedEnds V w (Err why) whole reported answer = (answer ≡ Err why) × EndsFaulted V w whole reported why
 
 -- What `live` answers on a disk, what it has written and done then, and whether its last text went out, once it has greeted.
-pub data LiveBegun {D C O : Type 0} (o : LiveSetting C) (stream : Option (List ℕ)) (g : GivenDisk D) (q : Calling C) (w : Writing O) (reported : Bool) (answer : StrictAnswer) : Type 0 where
+pub data LiveBegun {D C O : Type 0} (o : LiveSetting) (stream : Option (List ℕ)) (r : ProgramRun D C O) (reported : Bool) (answer : StrictAnswer) : Type 0 where
   -- it lived, and printed what stands last
-  lived : (last : O) (lived_so : StrictAnswer) (whole : Bool) → LivesOn o stream g q (writing w.contents w.old last) whole lived_so
-      → LivedEnds o.voice (writing w.contents last w.new) lived_so whole reported answer → LiveBegun o stream g q w reported answer
+  lived : (last : O) (lived_so : StrictAnswer) (whole : Bool) → LivesOn o stream (run_until r last) whole lived_so
+      → LivedEnds o.voice (writing r.wrote.contents last r.wrote.new) lived_so whole reported answer → LiveBegun o stream r reported answer
   -- there was no memory for the lines of its input, and nothing was done but to close the disk
-  not_begun : FaultReported o.voice w.contents w.old w.new reported fault.OutOfMemory → answer ≡ Err fault.OutOfMemory → q.new ≡ q.old → g.how.closed g.disk
-      → LiveBegun o stream g q w reported answer
+  not_begun : FaultReported o.voice r.wrote.contents r.wrote.old r.wrote.new reported fault.OutOfMemory → answer ≡ Err fault.OutOfMemory → r.called.new ≡ r.called.old
+      → r.given.how.closed r.given.disk → LiveBegun o stream r reported answer
 
 -- The same from its greeting on.
-pub data LiveAnswer {D C O : Type 0} (o : LiveSetting C) (stream : Option (List ℕ)) (g : GivenDisk D) (q : Calling C) (w : Writing O) (reported : Bool) (answer : StrictAnswer) : Type 0 where
-  greeted : (first : O) → Framed o.voice w.contents frame.Hello w.old first → LiveBegun o stream g q (writing w.contents first w.new) reported answer → LiveAnswer o stream g q w reported answer
+pub data LiveAnswer {D C O : Type 0} (o : LiveSetting) (stream : Option (List ℕ)) (r : ProgramRun D C O) (reported : Bool) (answer : StrictAnswer) : Type 0 where
+  greeted : (first : O) → Framed o.voice r.wrote.contents frame.Hello r.wrote.old first → LiveBegun o stream (run_since r first) reported answer → LiveAnswer o stream r reported answer
   -- it couldn't greet, and nothing was done but to close the disk
-  ungreeted : Unframed o.voice w reported answer → q.new ≡ q.old → g.how.closed g.disk → LiveAnswer o stream g q w reported answer
+  ungreeted : Unframed o.voice r.wrote reported answer → r.called.new ≡ r.called.old → r.given.how.closed r.given.disk → LiveAnswer o stream r reported answer
 
 -- How `live` and `eval` end where their files weren't opened: no child is called, and why is printed last and is a line on the stream of errors.
-abbrev pub LiveUnopened : {C O E : Type 0} → Voice → Calling C → Streams O E → Ending → FilesFault → Type 0
-LiveUnopened V q s ending why = (q.new ≡ q.old) × LastReported {T = Bool} V s.output.contents s.output.old s.output.new ending.reported (Err (no_files why))
-    × EndsAs s.errors ending (Err (no_files why))
+abbrev pub LiveUnopened : {D C O E : Type 0} → Voice → ProgramPassage D C O → Saying E → Ending → FilesFault → Type 0
+LiveUnopened V p e ending why = (p.called.new ≡ p.called.old) × LastReported {T = Bool} V p.wrote.contents p.wrote.old p.wrote.new ending.reported (Err (no_files why))
+    × EndsAs e ending (Err (no_files why))
 
 -- How `live` ends on a disk: what it answers, whether its last text went out, and the status. Where a strict input stopped is a line on the
 -- stream of errors, as of `run --strict`, and so is a fault.
-pub record LiveEnded {D C O E : Type 0} (o : LiveSetting C) (stream : Option (List ℕ)) (g : GivenDisk D) (q : Calling C) (s : Streams O E) (ending : Ending) : Type 0 where
+pub record LiveEnded {D C O E : Type 0} (o : LiveSetting) (stream : Option (List ℕ)) (r : ProgramRun D C O) (e : Saying E) (ending : Ending) : Type 0 where
   pub answer : StrictAnswer
   pub said : Bool
-  pub answered : LiveAnswer o stream g q s.output said answer
+  pub answered : LiveAnswer o stream r said answer
   pub last_said : ending.reported ≡ true → said ≡ true
   pub status : ending.status ≡ strict_status answer
-  pub reported : TellsStop s.errors ending.reported answer
+  pub reported : TellsStop e ending.reported answer
+
+-- the same of the disk that was opened
+abbrev pub LiveOpened : {D C O E : Type 0} → LiveSetting → Option (List ℕ) → ProgramPassage D C O → Saying E → Ending → D → Type 0
+LiveOpened o stream p e ending disk = LiveEnded o stream (run_on p disk) e ending

@@ -1,10 +1,12 @@
 -- What `blocks` writes of a stream: a line for each outer block, and one for its fault or its open tail.
-use Rattle.std.specs.Prelude.{◌≡◌, ℕ, Bool, List, [], ◌∷◌, ◌++◌, codes}
+use Rattle.std.specs.Prelude.{◌≡◌, ◌<◌, ◌≤◌, ℕ, Bool, List, [], ◌∷◌, ◌++◌, Option, IfSome, codes, length}
+use Rattle.std.specs.Io.KnownBytes.{Appends}
 use Rattle.std.specs.List.{flat_map}
 use Rattle.std.specs.Fmt.{decimal}
-use Rattle.meta_format.specs.Limits.{Limits}
+use Rattle.meta_format.specs.Limits.{Limits, limits}
 use Rattle.meta_format.specs.Stream.{Outer}
 use Rattle.meta_format.specs.Faults.{Kind, bad_tag, too_deep, too_long}
+use Rattle.offline_programs.specs.Input.{longest_standard_input}
 use Rattle.sheet_text.specs.Blocks.{tree_text}
 use Rattle.stream_json.specs.Streams.{StreamEnd, StreamHas, broken, inside, is_whole, outside}
 
@@ -46,3 +48,15 @@ pub record Printed (most : Limits) (stream text : List ℕ) (is : Bool) : Type 0
   pub has : StreamHas most stream blocks end
   pub written : text ≡ outer_lines blocks ++ end_line end
   pub whole : is ≡ is_whole end
+
+-- The text of a stream was written, after these bytes, and made them those; and whether the stream is whole.
+abbrev pub IsPrinted : List ℕ → Option (List ℕ) → Option (List ℕ) → Bool → Type 0
+IsPrinted stream before after whole = (text : List ℕ) × Printed limits stream text whole × Appends before after text
+
+-- what a reader gives, where that is known, is no longer than a program takes
+abbrev pub IsShortInput : Option (List ℕ) → Type 0
+IsShortInput stream = IfSome stream (λ bytes. length bytes ≤ longest_standard_input)
+
+-- and it is longer
+abbrev pub IsLongInput : Option (List ℕ) → Type 0
+IsLongInput stream = IfSome stream (λ bytes. longest_standard_input < length bytes)

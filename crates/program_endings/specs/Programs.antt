@@ -12,7 +12,7 @@ use Rattle.journal.specs.declared.opening.OpenCause.TheVariants as opens
 use Rattle.recovery.specs.Sheets.{IsSheetImage}
 use Rattle.sheet_text.specs.Texts.{sheet_text}
 use Rattle.program_endings.specs.Ending.{EndsAs, ProgramAnswer}
-use Rattle.program_endings.specs.Records.{Calling, DoesNothing, GivenDisk, Streams, Writing, given_disk, text_after, text_before, view_given}
+use Rattle.program_endings.specs.Records.{DoesNothing, GivenDisk, ProgramPassage, Streams, Writing, given_disk, text_after, text_before, view_given}
 use Rattle.program_endings.specs.declared.ending.Ending.{Ending}
 use Rattle.offline_programs.specs.Faults.{TellsShow}
 use Rattle.offline_programs.specs.Saying.{IsSaid, Saying}
@@ -88,5 +88,5 @@ abbrev pub ShowEnds : {D W E : Type 0} → Closable D → Result D FilesFault �
 ShowEnds k files s ending = (answer : ProgramAnswer) × ShowAnswer k files s.output answer × EndsAs s.errors ending answer
 
 -- How `run` ends where its files weren't opened: nothing is written or called, and why is a line on the stream of errors.
-abbrev pub EndsUnopened : {C W E : Type 0} → Calling C → Streams W E → Ending → FilesFault → Type 0
-EndsUnopened q s ending why = DoesNothing q s.output × EndsAs s.errors ending (Err (no_files why))
+abbrev pub EndsUnopened : {D C W E : Type 0} → ProgramPassage D C W → Saying E → Ending → FilesFault → Type 0
+EndsUnopened p e ending why = DoesNothing p.called p.wrote × EndsAs e ending (Err (no_files why))

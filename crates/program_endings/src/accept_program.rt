@@ -1,15 +1,13 @@
 //! The program `check --accept` over a worksheet's files, from its files on.
 ghost use Rattle.std.specs.Prelude.{◌≡◌, Result};
 ghost use Rattle.check_report.specs.declared.verdict.Counts.{Counts};
-ghost use Rattle.sheet_files.specs.Closing.{closable};
-ghost use Rattle.offline_programs.specs.Saying.{saying};
 ghost use Rattle.program_endings.specs.AcceptProgram.{AcceptDone, AcceptEnds, accepts_all, answer_of_acceptance};
 ghost use Rattle.program_endings.specs.CheckProgram.{EndsChecked};
-ghost use Rattle.program_endings.specs.Records.{calling, given_disk, streams, writing};
-ghost use Rattle.sheet_check.specs.Accept.{accepting_by};
+ghost use Rattle.program_endings.specs.Passing.{passed, run};
 
 use crate::check_program::{end_in_words, found_any};
 use crate::passing::{Given, GivenBack};
+use crate::seeing::{Heard, Kinds};
 use crate::telling::no_files;
 use crate::{Ending, end_program};
 use arrivals::Sources;
@@ -34,7 +32,7 @@ fn end_acceptance<E: Says>(
     answer: Result<Counts, CheckFault>,
     errors: &mut E,
 ) -> Ending
-    ensures { EndsChecked (saying E.contents E.tried errors.old errors.new) result
+    ensures { EndsChecked (⟦<E as Heard>⟧.said errors.old errors.new) result
         (answer_of_acceptance chosen.now answer) }
 {
     match answer {
@@ -50,11 +48,8 @@ fn accept_on<D: Close, C: Sources, P: Progress, W: Write, E: Says>(
     progress: &mut P,
     errors: &mut E,
 ) -> GivenBack<Ending, C, W>
-    ensures { AcceptDone (accepting_by C.after C.clock C.wakes manner.now.request.now)
-        (given_disk (closable D.view D.closed) outside.disk) (calling outside.sources
-        result.sources)
-        (streams (writing W.contents outside.output result.output)
-        (saying E.contents E.tried errors.old errors.new)) result.ending }
+    ensures { AcceptDone manner.now.request.now (run ⟦<(D, C, W) as Kinds>⟧.seen outside result)
+        (⟦<E as Heard>⟧.said errors.old errors.new) result.ending }
 {
     let Outside {
         disk,
@@ -83,11 +78,9 @@ pub fn run_accept<D: Close, C: Sources, P: Progress, W: Write, E: Says>(
     progress: &mut P,
     errors: &mut E,
 ) -> GivenBack<Ending, C, W>
-    ensures { AcceptEnds (closable D.view D.closed) (accepting_by C.after C.clock C.wakes
-        manner.now.request.now)
-        given.files (calling given.sources result.sources)
-        (streams (writing W.contents given.output result.output)
-        (saying E.contents E.tried errors.old errors.new)) result.ending }
+    ensures { AcceptEnds manner.now.request.now given.files
+        (passed ⟦<(D, C, W) as Kinds>⟧.seen given result)
+        (⟦<E as Heard>⟧.said errors.old errors.new) result.ending }
 {
     let Given {
         files,

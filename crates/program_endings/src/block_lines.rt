@@ -1,10 +1,10 @@
 //! The program `blocks`: the outer blocks of a stream, a line each.
-ghost use Rattle.std.specs.Prelude.{◌≡◌, ◌<◌, ◌≤◌, ℕ, List, [], IfErr, IfOk, IfSome, IsErrOf, OnOk, length};
+ghost use Rattle.std.specs.Prelude.{◌≡◌, ◌≤◌, [], IfErr, IfOk, IfSome, IsErrOf, OnOk, length};
 ghost use Rattle.std.specs.Io.KnownBytes.{Appends, append_known};
 ghost use Rattle.block_tree.specs.Tree.{Tree};
 ghost use Rattle.meta_format.specs.Limits.{limits};
 ghost use Rattle.meta_format.specs.Spelling.{Spells};
-ghost use Rattle.program_endings.specs.Printed.{Printed, named_fault_line, outer_line, unfinished_line};
+ghost use Rattle.program_endings.specs.Printed.{IsLongInput, IsPrinted, IsShortInput, named_fault_line, outer_line, unfinished_line};
 ghost use Rattle.offline_programs.specs.Input.{IsStreamFault, longest_standard_input};
 
 use line_room::Room;
@@ -77,8 +77,8 @@ fn write_unfinished<W: Write>(start: usize, room: &mut Room, out: &mut W) -> Res
 fn write_stream<W: Write>(stream: &[u8], room: &mut Room, out: &mut W) -> Result<bool, RunFault>
     requires short { length stream.now ≤ longest_standard_input }
     requires none_held { room.old ≡ [] }
-    ensures printed { IfOk result (λ whole. (text : List ℕ) × Printed limits stream.now text whole
-        × Appends (W.contents out.old) (W.contents out.new) text) }
+    ensures printed { IfOk result
+        (IsPrinted stream.now (W.contents out.old) (W.contents out.new)) }
     ensures err { IfErr result (λ fault. fault ≡ RunFault.Output) }
 {
     let mut from = 0;
@@ -126,19 +126,14 @@ pub fn blocks<R: Read, W: Write>(
     reader: &mut R,
     writer: &mut W,
 ) -> Result<bool, RunFault>
-    ensures printed { IfOk result
-        (λ whole. IfSome (R.remaining reader.old) (λ stream. (text : List ℕ)
-        × Printed limits stream text whole
-        × Appends (W.contents writer.old) (W.contents writer.new) text)) }
+    ensures printed { IfOk result (λ whole. IfSome (R.remaining reader.old)
+        (λ stream. IsPrinted stream (W.contents writer.old) (W.contents writer.new) whole)) }
 
     // An input that is too long is reported as such, whatever else would go wrong with its text.
-    ensures short { IfOk result
-        (λ whole. IfSome (R.remaining reader.old) (λ stream. length stream
-        ≤ longest_standard_input)) }
-    ensures output_short { IsErrOf result RunFault.Output
-        → IfSome (R.remaining reader.old) (λ stream. length stream ≤ longest_standard_input) }
+    ensures short { IfOk result (λ whole. IsShortInput (R.remaining reader.old)) }
+    ensures output_short { IsErrOf result RunFault.Output → IsShortInput (R.remaining reader.old) }
     ensures too_long { IsErrOf result RunFault.InputTooLong
-        → IfSome (R.remaining reader.old) (λ stream. longest_standard_input < length stream) }
+        → IsLongInput (R.remaining reader.old) }
 
     // A stream gives no fault of a host or of a disk.
     ensures faults { IfErr result IsStreamFault }

@@ -1,12 +1,9 @@
 //! The program `blocks --json`.
-ghost use Rattle.offline_programs.specs.Saying.{saying};
-ghost use Rattle.program_endings.specs.BlocksProgram.{ObjectsAnswer};
-ghost use Rattle.program_endings.specs.Ending.{EndsAs, ProgramAnswer};
-ghost use Rattle.program_endings.specs.LiveProgram.{LastReported};
-ghost use Rattle.tellings.specs.Json.{in_json};
+ghost use Rattle.program_endings.specs.BlocksProgram.{ObjectsEnd};
 
 use crate::Ending;
 use crate::live_program::end_reported;
+use crate::seeing::Both;
 use offline_programs::Says;
 use std::alloc::Global;
 use std::io::{Read, Write};
@@ -21,10 +18,8 @@ pub fn run_block_objects<R: Read, W: Write, E: Says>(
     output: &mut W,
     errors: &mut E,
 ) -> Ending
-    ensures { (answer : ProgramAnswer) × (mid : W)
-        × ObjectsAnswer (R.remaining input.old) W.contents output.old mid answer
-        × LastReported in_json W.contents mid output.new result.reported answer
-        × EndsAs (saying E.contents E.tried errors.old errors.new) result answer }
+    ensures { ObjectsEnd (R.remaining input.old)
+        (⟦<(W, E) as Both>⟧.streams output.old output.new errors.old errors.new) result }
 {
     let answer = block_objects(alloc, input, output);
     end_reported(answer, &InJson { alloc }, output, errors)

@@ -2,19 +2,18 @@
 ghost use Rattle.std.specs.Prelude.{◌≡◌, Err, Result};
 ghost use Rattle.check_report.specs.declared.verdict.Counts.{Counts};
 ghost use Rattle.sheet_check.specs.declared.named.CheckFault.TheVariants as checks;
-ghost use Rattle.sheet_files.specs.Closing.{closable};
-ghost use Rattle.offline_programs.specs.Saying.{saying};
 ghost use Rattle.program_endings.specs.Ending.{EndsAs};
 ghost use Rattle.program_endings.specs.CheckProgram.{CheckDone, CheckEnds, EndsChecked, LastInJson, LastOfCheck, all_same, answer_of_check, check_passes, finds_any};
 ghost use Rattle.program_endings.specs.Faults as printed;
-ghost use Rattle.program_endings.specs.Records.{calling, given_disk, streams, writing};
-ghost use Rattle.sheet_check.specs.Evaluated.{checking_by};
+ghost use Rattle.program_endings.specs.Records.{writing};
+ghost use Rattle.program_endings.specs.Passing.{passed, run};
 
 use crate::ending::ended;
 use crate::eval_program::end_without;
 use crate::live_program::end_reported;
 use crate::messages::NotEvaluated;
 use crate::passing::{Given, GivenBack};
+use crate::seeing::{Heard, Kinds};
 use crate::telling::no_files;
 use crate::{Ending, end_program};
 use arrivals::Sources;
@@ -63,7 +62,7 @@ fn is_passed(chosen: &Chosen, counts: Counts) -> bool
 
 /// Ends the program where no field has a number that is named.
 fn end_missing<E: Says>(id: u32, errors: &mut E) -> Ending
-    ensures { EndsChecked (saying E.contents E.tried errors.old errors.new) result
+    ensures { EndsChecked (⟦<E as Heard>⟧.said errors.old errors.new) result
         (Err (checks.NoField id)) }
 {
     let why = EvalFault::NoField(id);
@@ -72,7 +71,7 @@ fn end_missing<E: Says>(id: u32, errors: &mut E) -> Ending
 
 /// Ends the program by what it answered: a fault is a line.
 pub(crate) fn end_in_words<E: Says>(answer: Result<bool, CheckFault>, errors: &mut E) -> Ending
-    ensures { EndsChecked (saying E.contents E.tried errors.old errors.new) result answer }
+    ensures { EndsChecked (⟦<E as Heard>⟧.said errors.old errors.new) result answer }
 {
     match answer {
         Ok(passed) => end_program(Ok(passed), errors),
@@ -89,7 +88,7 @@ fn end_in_json<W: Write, E: Says>(
     errors: &mut E,
 ) -> Ending
     ensures last { LastInJson (writing W.contents output.old output.new) result.reported answer }
-    ensures ends { EndsChecked (saying E.contents E.tried errors.old errors.new) result answer }
+    ensures ends { EndsChecked (⟦<E as Heard>⟧.said errors.old errors.new) result answer }
 {
     match answer {
         Ok(passed) => end_program(Ok(passed), errors),
@@ -114,7 +113,7 @@ fn end_report<W: Write, E: Says>(
 ) -> Ending
     ensures last { LastOfCheck format (writing W.contents output.old output.new) result.reported
         answer }
-    ensures ends { EndsChecked (saying E.contents E.tried errors.old errors.new) result answer }
+    ensures ends { EndsChecked (⟦<E as Heard>⟧.said errors.old errors.new) result answer }
 {
     match format {
         Format::Json => end_in_json(alloc, answer, output, errors),
@@ -134,7 +133,7 @@ pub(crate) fn end_check<W: Write, E: Says>(
     ensures last { LastOfCheck manner.now.request.now.format (writing W.contents output.old
         output.new) result.reported
         (answer_of_check manner.now.request.now.chosen answer) }
-    ensures ends { EndsChecked (saying E.contents E.tried errors.old errors.new) result
+    ensures ends { EndsChecked (⟦<E as Heard>⟧.said errors.old errors.new) result
         (answer_of_check manner.now.request.now.chosen answer) }
 {
     let answer = match answer {
@@ -155,7 +154,7 @@ pub(crate) fn end_unopened<W: Write, E: Says>(
     ensures last { LastOfCheck manner.now.request.now.format (writing W.contents output.old
         output.new) result.ending.reported
         (Err (checks.Run (printed.no_files why))) }
-    ensures ends { EndsAs (saying E.contents E.tried errors.old errors.new) result.ending
+    ensures ends { EndsAs (⟦<E as Heard>⟧.said errors.old errors.new) result.ending
         (Err (printed.no_files why)) }
 {
     let fault = CheckFault::Run(no_files(why));
@@ -179,11 +178,8 @@ fn check_on<D: Close, C: Sources, P: Progress, W: Write, E: Says>(
     progress: &mut P,
     errors: &mut E,
 ) -> GivenBack<CheckEnding, C, W>
-    ensures { CheckDone (checking_by C.after C.clock C.wakes manner.now.request.now)
-        (given_disk (closable D.view D.closed) outside.disk) (calling outside.sources
-        result.sources)
-        (streams (writing W.contents outside.output result.output)
-        (saying E.contents E.tried errors.old errors.new)) result.ending }
+    ensures { CheckDone manner.now.request.now (run ⟦<(D, C, W) as Kinds>⟧.seen outside result)
+        (⟦<E as Heard>⟧.said errors.old errors.new) result.ending }
 {
     let Outside {
         disk,
@@ -214,11 +210,9 @@ pub fn run_check<D: Close, C: Sources, P: Progress, W: Write, E: Says>(
     progress: &mut P,
     errors: &mut E,
 ) -> GivenBack<CheckEnding, C, W>
-    ensures { CheckEnds (closable D.view D.closed)
-        (checking_by C.after C.clock C.wakes manner.now.request.now)
-        given.files (calling given.sources result.sources)
-        (streams (writing W.contents given.output result.output)
-        (saying E.contents E.tried errors.old errors.new)) result.ending }
+    ensures { CheckEnds manner.now.request.now given.files
+        (passed ⟦<(D, C, W) as Kinds>⟧.seen given result)
+        (⟦<E as Heard>⟧.said errors.old errors.new) result.ending }
 {
     let Given {
         files,

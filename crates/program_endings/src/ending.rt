@@ -1,9 +1,10 @@
 //! How the program ends: its exit status, and what it says on which stream.
 ghost use Rattle.std.specs.Prelude.{◌≡◌};
-ghost use Rattle.offline_programs.specs.Saying.{saying};
-ghost use Rattle.program_endings.specs.Ending.{BlocksAnswer, EndsAs, ProgramAnswer, TellsFault, answer_of, status_of};
+ghost use Rattle.program_endings.specs.BlocksProgram.{BlocksEnd};
+ghost use Rattle.program_endings.specs.Ending.{TellsFault, answer_of, status_of};
 
 use crate::blocks;
+use crate::seeing::{Both, Heard};
 use offline_programs::{RunFault, Says};
 use std::alloc::Global;
 use std::io::{Read, Write};
@@ -39,7 +40,7 @@ pub(crate) fn answered<T: Copy>(done: Result<T, RunFault>) -> Result<bool, RunFa
 /// Ends a program by what it answered, whether all is well or its fault, which is printed on a line.
 pub fn end_program<E: Says>(answer: Result<bool, RunFault>, errors: &mut E) -> Ending
     ensures status { result.status ≡ status_of answer }
-    ensures reported { TellsFault (saying E.contents E.tried errors.old errors.new) result.reported
+    ensures reported { TellsFault (⟦<E as Heard>⟧.said errors.old errors.new) result.reported
         answer }
 {
     match answer {
@@ -56,9 +57,8 @@ pub fn run_blocks<R: Read, W: Write, E: Says>(
     output: &mut W,
     errors: &mut E,
 ) -> Ending
-    ensures { (answer : ProgramAnswer)
-        × BlocksAnswer (R.remaining input.old) W.contents output.old output.new answer
-        × EndsAs (saying E.contents E.tried errors.old errors.new) result answer }
+    ensures { BlocksEnd (R.remaining input.old)
+        (⟦<(W, E) as Both>⟧.streams output.old output.new errors.old errors.new) result }
 {
     let answer = blocks(alloc, input, output);
     end_program(answer, errors)

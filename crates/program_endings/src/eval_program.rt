@@ -1,19 +1,18 @@
 //! The program `eval` over a worksheet's files, from its files on.
 ghost use Rattle.std.specs.Prelude.{◌≡◌, Err, IfErr, IfOk, Ok, true};
-ghost use Rattle.driver.specs.Place.{source_rules};
 ghost use Rattle.evaluation.specs.declared.fault.EvalFault.TheVariants as evals;
 ghost use Rattle.field_agenda.specs.Stages.{IsEnded};
-ghost use Rattle.offline_programs.specs.Saying.{saying};
-ghost use Rattle.program_endings.specs.EvalProgram.{AnswersAfter, EndsEvaluated, EvaluatesTo, EvaluationBegun, EvaluationEnded, FramedLast, LastOfEnd, LastOfFault, TellsEval, are_none_over, counts_status, eval_setting, evaluation_status};
+ghost use Rattle.program_endings.specs.EvalProgram.{AnswersAfter, EndsEvaluated, EvaluatesTo, EvaluationBegun, EvaluationEnded, EvaluationOpened, FramedLast, LastOfEnd, LastOfFault, TellsEval, are_none_over, counts_status, eval_setting, evaluation_status};
 ghost use Rattle.program_endings.specs.Ending.{TellsFault};
 ghost use Rattle.program_endings.specs.LiveProgram.{EndsFaulted, LiveUnopened};
-ghost use Rattle.program_endings.specs.Records.{calling, given_disk, streams, writing};
-ghost use Rattle.sheet_files.specs.Closing.{closable};
+ghost use Rattle.program_endings.specs.Records.{writing};
+ghost use Rattle.program_endings.specs.Passing.{passed, run, run_so_far};
 
 use crate::ending::ended;
 use crate::live_program::{end_reported, is_printed, with_last};
 use crate::messages::{NotEvaluated, StoppedAt};
 use crate::passing::{Answered, Given, GivenBack};
+use crate::seeing::{Both, Heard, Kinds};
 use crate::telling::no_files;
 use crate::{Ending, end_program};
 use arrivals::Sources;
@@ -92,11 +91,8 @@ fn evaluate_on<W: Stamped, D: Close, S: Sources, T: Tells + Copy, P: Programs + 
     programs: P,
     outside: Outside<D, S, W>,
 ) -> Evaluated<S, W>
-    ensures { EvaluatesTo (eval_setting setting.plan programs P.finds T.voice
-        (source_rules S.after S.wakes S.clock) W.held) (given_disk (closable D.view D.closed)
-        outside.disk)
-        (calling outside.sources result.sources) (writing W.contents outside.output result.output)
-        result.whole result.answer }
+    ensures { EvaluatesTo (eval_setting setting.plan programs P.finds T.voice W.held)
+        (run_so_far ⟦<(D, S, W) as Kinds>⟧.seen outside result) result.whole result.answer }
 {
     let FieldSetting { alloc, plan, tells } = setting;
     let voiced = Voiced {
@@ -125,7 +121,7 @@ fn evaluate_on<W: Stamped, D: Close, S: Sources, T: Tells + Copy, P: Programs + 
 /// Ends the program where an evaluation came to its end: where it stopped is a line.
 fn end_evaluated<E: Says>(end: EvalEnd, errors: &mut E) -> Ending
     ensures status { result.status ≡ evaluation_status (Ok end) }
-    ensures reported { TellsEval (saying E.contents E.tried errors.old errors.new) result.reported
+    ensures reported { TellsEval (⟦<E as Heard>⟧.said errors.old errors.new) result.reported
         (Ok end) }
 {
     match end.stopped_at {
@@ -145,7 +141,7 @@ pub(crate) fn end_without<W: Write, E: Says, T: Tells>(
 ) -> Ending
     ensures last { FramedLast T.voice W.contents output.old output.new result.reported last }
     ensures status { result.status ≡ 1 }
-    ensures reported { TellsEval (saying E.contents E.tried errors.old errors.new) result.reported
+    ensures reported { TellsEval (⟦<E as Heard>⟧.said errors.old errors.new) result.reported
         (Err why) }
 {
     let said = tells.frame(last, output).is_ok();
@@ -167,7 +163,7 @@ fn tell_run_fault<W: Write, T: Tells>(why: RunFault, whole: bool, tells: &T, out
 fn end_faulted<E: Says>(why: RunFault, said: bool, errors: &mut E) -> Ending
     ensures last { result.reported ≡ true → said ≡ true }
     ensures status { result.status ≡ 1 }
-    ensures reported { TellsFault (saying E.contents E.tried errors.old errors.new) result.reported
+    ensures reported { TellsFault (⟦<E as Heard>⟧.said errors.old errors.new) result.reported
         (Err why) }
 {
     with_last(end_program(Err(why), errors), said)
@@ -181,10 +177,11 @@ fn end_broken<W: Write, E: Says, T: Tells>(
     output: &mut W,
     errors: &mut E,
 ) -> Ending
-    ensures last { LastOfFault T.voice (streams (writing W.contents output.old output.new)
-        (saying E.contents E.tried errors.old errors.new)) whole result (evals.Run why) }
+    ensures last { LastOfFault T.voice
+        (⟦<(W, E) as Both>⟧.streams output.old output.new errors.old errors.new) whole result
+        (evals.Run why) }
     ensures status { result.status ≡ 1 }
-    ensures reported { TellsEval (saying E.contents E.tried errors.old errors.new) result.reported
+    ensures reported { TellsEval (⟦<E as Heard>⟧.said errors.old errors.new) result.reported
         (Err (evals.Run why)) }
 {
     let said = tell_run_fault(why, whole, tells, output);
@@ -199,10 +196,11 @@ fn end_faulty<W: Write, E: Says, T: Tells>(
     output: &mut W,
     errors: &mut E,
 ) -> Ending
-    ensures last { LastOfFault T.voice (streams (writing W.contents output.old output.new)
-        (saying E.contents E.tried errors.old errors.new)) whole result fault }
+    ensures last { LastOfFault T.voice
+        (⟦<(W, E) as Both>⟧.streams output.old output.new errors.old errors.new) whole result
+        fault }
     ensures status { result.status ≡ 1 }
-    ensures reported { TellsEval (saying E.contents E.tried errors.old errors.new) result.reported
+    ensures reported { TellsEval (⟦<E as Heard>⟧.said errors.old errors.new) result.reported
         (Err fault) }
 {
     match fault {
@@ -231,8 +229,8 @@ fn end_framed<W: Write, E: Says, T: Tells>(
     output: &mut W,
     errors: &mut E,
 ) -> Ending
-    ensures { LastOfEnd T.voice (streams (writing W.contents output.old output.new)
-        (saying E.contents E.tried errors.old errors.new)) result end }
+    ensures { LastOfEnd T.voice
+        (⟦<(W, E) as Both>⟧.streams output.old output.new errors.old errors.new) result end }
 {
     match tells.frame(Frame::End, output) {
         Ok(()) => end_evaluated(end, errors),
@@ -248,8 +246,9 @@ fn end_evaluation<W: Write, E: Says, T: Tells>(
     output: &mut W,
     errors: &mut E,
 ) -> Ending
-    ensures { EndsEvaluated T.voice (streams (writing W.contents output.old output.new)
-        (saying E.contents E.tried errors.old errors.new)) whole result answer }
+    ensures { EndsEvaluated T.voice
+        (⟦<(W, E) as Both>⟧.streams output.old output.new errors.old errors.new) whole result
+        answer }
 {
     match answer {
         Ok(end) => end_framed(end, tells, output, errors),
@@ -264,11 +263,9 @@ fn end_on<W: Stamped, E: Says, D: Close, S: Sources, T: Tells + Copy, P: Program
     outside: Outside<D, S, W>,
     errors: &mut E,
 ) -> GivenBack<Ending, S, W>
-    ensures { EvaluationBegun (eval_setting setting.plan programs P.finds T.voice
-        (source_rules S.after S.wakes S.clock) W.held) (given_disk (closable D.view D.closed)
-        outside.disk) (calling outside.sources result.sources)
-        (streams (writing W.contents outside.output result.output)
-        (saying E.contents E.tried errors.old errors.new)) result.ending }
+    ensures { EvaluationBegun (eval_setting setting.plan programs P.finds T.voice W.held)
+        (run ⟦<(D, S, W) as Kinds>⟧.seen outside result) (⟦<E as Heard>⟧.said errors.old errors.new)
+        result.ending }
 {
     let tells = setting.tells;
     let Answered {
@@ -291,11 +288,9 @@ fn end_greeted<W: Stamped, E: Says, D: Close, S: Sources, T: Tells + Copy, P: Pr
     mut outside: Outside<D, S, W>,
     errors: &mut E,
 ) -> GivenBack<Ending, S, W>
-    ensures { EvaluationEnded (eval_setting setting.plan programs P.finds T.voice
-        (source_rules S.after S.wakes S.clock) W.held) (given_disk (closable D.view D.closed)
-        outside.disk) (calling outside.sources result.sources)
-        (streams (writing W.contents outside.output result.output)
-        (saying E.contents E.tried errors.old errors.new)) result.ending }
+    ensures { EvaluationEnded (eval_setting setting.plan programs P.finds T.voice W.held)
+        (run ⟦<(D, S, W) as Kinds>⟧.seen outside result) (⟦<E as Heard>⟧.said errors.old errors.new)
+        result.ending }
 {
     match setting.tells.frame(Frame::Hello, &mut outside.output) {
         Ok(()) => end_on(setting, programs, outside, errors),
@@ -332,16 +327,14 @@ pub fn run_evaluation<
     given: Given<D, S, W>,
     errors: &mut E,
 ) -> GivenBack<Ending, S, W>
-    ensures unopened { IfErr given.files (LiveUnopened T.voice
-        (calling given.sources result.sources)
-        (streams (writing W.contents given.output result.output)
-        (saying E.contents E.tried errors.old errors.new)) result.ending) }
+    ensures unopened { IfErr given.files
+        (LiveUnopened T.voice (passed ⟦<(D, S, W) as Kinds>⟧.seen given result)
+        (⟦<E as Heard>⟧.said errors.old errors.new) result.ending) }
 
-    ensures files { IfOk given.files (λ disk. EvaluationEnded
-        (eval_setting setting.plan programs P.finds T.voice (source_rules S.after S.wakes S.clock)
-        W.held) (given_disk (closable D.view D.closed) disk) (calling given.sources result.sources)
-        (streams (writing W.contents given.output result.output)
-        (saying E.contents E.tried errors.old errors.new)) result.ending) }
+    ensures files { IfOk given.files
+        (EvaluationOpened (eval_setting setting.plan programs P.finds T.voice W.held)
+        (passed ⟦<(D, S, W) as Kinds>⟧.seen given result)
+        (⟦<E as Heard>⟧.said errors.old errors.new) result.ending) }
 {
     let Given {
         files,

@@ -1,13 +1,12 @@
 //! The program `export` over a worksheet's files, from its files on.
 ghost use Rattle.std.specs.Prelude.{◌≡◌};
-ghost use Rattle.offline_programs.specs.Saying.{saying};
 ghost use Rattle.program_endings.specs.ExportProgram.{ExportEnds, ExportedFrom, TellsExported, export_status};
-ghost use Rattle.program_endings.specs.Records.{given_disk, streams, writing};
-ghost use Rattle.sheet_files.specs.Closing.{closable};
+ghost use Rattle.program_endings.specs.Records.{writing};
 
 use crate::Ending;
 use crate::ending::ended;
 use crate::messages::NotExported;
+use crate::seeing::{Both, Closes, Heard};
 use crate::telling::no_files;
 use offline_programs::Says;
 use sheet_export::{ExportFault, Exported, Format, export};
@@ -29,8 +28,8 @@ fn export_disk<D: Close, W: Write>(
     form: &ExportForm<'_>,
     output: &mut W,
 ) -> Result<(), ExportFault>
-    ensures { ExportedFrom (given_disk (closable D.view D.closed) disk) form.now.format
-        form.now.title.now (writing W.contents output.old output.new) result }
+    ensures { ExportedFrom (⟦<D as Closes>⟧.given disk) form.now.format form.now.title.now
+        (writing W.contents output.old output.new) result }
 {
     let Exported { disk, answer } = export(alloc, form.format, disk, form.title, output);
     disk.close();
@@ -40,7 +39,7 @@ fn export_disk<D: Close, W: Write>(
 /// Ends the program by what an export answered.
 pub(crate) fn end_export<E: Says>(answer: Result<(), ExportFault>, errors: &mut E) -> Ending
     ensures { (result.status ≡ export_status answer)
-        × TellsExported (saying E.contents E.tried errors.old errors.new) result.reported answer }
+        × TellsExported (⟦<E as Heard>⟧.said errors.old errors.new) result.reported answer }
 {
     match answer {
         Ok(()) => ended(0, true),
@@ -57,9 +56,8 @@ pub fn run_export<D: Close, W: Write, E: Says>(
     output: &mut W,
     errors: &mut E,
 ) -> Ending
-    ensures { ExportEnds (closable D.view D.closed) files form.now.format form.now.title.now
-        (streams (writing W.contents output.old output.new) (saying E.contents E.tried errors.old
-        errors.new)) result }
+    ensures { ExportEnds ⟦<D as Closes>⟧.how files form.now.format form.now.title.now
+        (⟦<(W, E) as Both>⟧.streams output.old output.new errors.old errors.new) result }
 {
     let answer = match files {
         Ok(disk) => export_disk(alloc, disk, form, output),

@@ -17,6 +17,7 @@ mod past_program;
 mod programs;
 mod rescue_program;
 mod script_program;
+mod seeing;
 mod several_program;
 mod strict_program;
 mod telling;
@@ -35,6 +36,7 @@ pub use past_program::{end_past, read_past, run_export_past, run_history, run_sh
 pub use programs::{run_create, run_show};
 pub use rescue_program::{read_rescued, run_rescue};
 pub use script_program::run_script;
+pub use seeing::{Both, Closes, Heard, Kinds};
 pub use several_program::{Total, end_total, end_unwritten, is_unwritten, tell_worksheet};
 pub use telling::{create_fault_text, end_unheld};
 pub use together_program::run_check_together;

@@ -2,16 +2,15 @@
 ghost use Rattle.std.specs.Prelude.{◌≡◌, ◌&&◌, Err, IfErr, IfOk, Ok, ℕ, true};
 ghost use Rattle.line_agenda.specs.LinesAt.{LinesAt, stopped_at};
 ghost use Rattle.arrivals.specs.Held.{nothing_held};
-ghost use Rattle.driver.specs.Place.{source_rules};
-ghost use Rattle.offline_programs.specs.Saying.{saying};
 ghost use Rattle.program_endings.specs.Ending.{TellsFault, status_of};
 ghost use Rattle.program_endings.specs.LiveProgram as meant;
-ghost use Rattle.program_endings.specs.LiveProgram.{EndsFaulted, EndsFramed, FaultReported, LastReported, LiveAnswer, LiveBegun, LiveEnded, LiveUnopened, LivedEnds, LivesOn, live_setting};
-ghost use Rattle.program_endings.specs.Records.{calling, given_disk, streams, writing};
+ghost use Rattle.program_endings.specs.LiveProgram.{EndsFaulted, EndsFramed, FaultReported, LastReported, LiveAnswer, LiveBegun, LiveEnded, LiveOpened, LiveUnopened, LivedEnds, LivesOn, live_setting};
+ghost use Rattle.program_endings.specs.Records.{writing};
 ghost use Rattle.program_endings.specs.StrictProgram.{TellsStop, strict_status};
-ghost use Rattle.sheet_files.specs.Closing.{closable};
+ghost use Rattle.program_endings.specs.Passing.{passed, run, run_so_far};
 
 use crate::passing::{Answered, Given, GivenBack};
+use crate::seeing::{Heard, Kinds};
 use crate::strict_program::end_strict;
 use crate::telling::no_files;
 use crate::{Ending, end_program};
@@ -94,10 +93,8 @@ fn live_on<R: Read, W: Stamped, D: Close, S: Sources, T: Tells + Copy>(
 where
     R: Drop,
     requires { lines.held ≡ nothing_held }
-    ensures { LivesOn (live_setting setting.manner T.voice (source_rules S.after S.wakes S.clock)
-        W.held) (R.remaining lines.reader) (given_disk (closable D.view D.closed) outside.disk)
-        (calling outside.sources result.sources) (writing W.contents outside.output result.output)
-        result.whole result.answer }
+    ensures { LivesOn (live_setting setting.manner T.voice W.held) (R.remaining lines.reader)
+        (run_so_far ⟦<(D, S, W) as Kinds>⟧.seen outside result) result.whole result.answer }
 {
     let voiced = Voiced {
         tells: setting.tells,
@@ -195,10 +192,8 @@ fn live_lines<R: Read, W: Stamped, D: Close, S: Sources, T: Tells + Copy>(
 where
     R: Drop,
     requires { lines.held ≡ nothing_held }
-    ensures { LiveBegun (live_setting setting.manner T.voice (source_rules S.after S.wakes S.clock)
-        W.held) (R.remaining lines.reader) (given_disk (closable D.view D.closed) outside.disk)
-        (calling outside.sources result.sources) (writing W.contents outside.output result.output)
-        result.whole result.answer }
+    ensures { LiveBegun (live_setting setting.manner T.voice W.held) (R.remaining lines.reader)
+        (run_so_far ⟦<(D, S, W) as Kinds>⟧.seen outside result) result.whole result.answer }
 {
     let tells = setting.tells;
     end_lived(live_on(setting, lines, outside), tells)
@@ -210,10 +205,8 @@ fn live_read<R: Read, W: Stamped, D: Close, S: Sources, T: Tells + Copy>(
     input: &mut R,
     outside: Outside<D, S, W>,
 ) -> Lived<S, W>
-    ensures { LiveBegun (live_setting setting.manner T.voice (source_rules S.after S.wakes S.clock)
-        W.held) (R.remaining input.old) (given_disk (closable D.view D.closed) outside.disk)
-        (calling outside.sources result.sources) (writing W.contents outside.output result.output)
-        result.whole result.answer }
+    ensures { LiveBegun (live_setting setting.manner T.voice W.held) (R.remaining input.old)
+        (run_so_far ⟦<(D, S, W) as Kinds>⟧.seen outside result) result.whole result.answer }
 {
     match InputLines::new(setting.alloc, input) {
         Ok(lines) => live_lines(setting, lines, outside),
@@ -235,11 +228,8 @@ fn live_framed<R: Read, W: Stamped, D: Close, S: Sources, T: Tells + Copy>(
     input: &mut R,
     mut outside: Outside<D, S, W>,
 ) -> Lived<S, W>
-    ensures { LiveAnswer (live_setting setting.manner T.voice
-        (source_rules S.after S.wakes S.clock) W.held) (R.remaining input.old)
-        (given_disk (closable D.view D.closed) outside.disk)
-        (calling outside.sources result.sources) (writing W.contents outside.output result.output)
-        result.whole result.answer }
+    ensures { LiveAnswer (live_setting setting.manner T.voice W.held) (R.remaining input.old)
+        (run_so_far ⟦<(D, S, W) as Kinds>⟧.seen outside result) result.whole result.answer }
 {
     match setting.tells.frame(Frame::Hello, &mut outside.output) {
         Ok(()) => live_read(setting, input, outside),
@@ -284,7 +274,7 @@ pub(crate) fn end_reported<W: Write, E: Says, T: Tells>(
 ) -> Ending
     ensures last { LastReported T.voice W.contents output.old output.new result.reported answer }
     ensures status { result.status ≡ status_of answer }
-    ensures reported { TellsFault (saying E.contents E.tried errors.old errors.new) result.reported
+    ensures reported { TellsFault (⟦<E as Heard>⟧.said errors.old errors.new) result.reported
         answer }
 {
     let said = tell_last(answer, tells, output);
@@ -296,7 +286,7 @@ pub(crate) fn end_reported<W: Write, E: Says, T: Tells>(
 fn end_stopped<E: Says>(answer: Result<Option<u64>, RunFault>, said: bool, errors: &mut E) -> Ending
     ensures last { result.reported ≡ true → said ≡ true }
     ensures status { result.status ≡ strict_status answer }
-    ensures reported { TellsStop (saying E.contents E.tried errors.old errors.new) result.reported
+    ensures reported { TellsStop (⟦<E as Heard>⟧.said errors.old errors.new) result.reported
         answer }
 {
     with_last(end_strict(answer, errors), said)
@@ -309,11 +299,9 @@ pub(crate) fn end_live<R: Read, W: Stamped, E: Says, D: Close, S: Sources, T: Te
     outside: Outside<D, S, W>,
     errors: &mut E,
 ) -> GivenBack<Ending, S, W>
-    ensures { LiveEnded (live_setting setting.manner T.voice (source_rules S.after S.wakes S.clock)
-        W.held) (R.remaining input.old) (given_disk (closable D.view D.closed) outside.disk)
-        (calling outside.sources result.sources)
-        (streams (writing W.contents outside.output result.output)
-        (saying E.contents E.tried errors.old errors.new)) result.ending }
+    ensures { LiveEnded (live_setting setting.manner T.voice W.held) (R.remaining input.old)
+        (run ⟦<(D, S, W) as Kinds>⟧.seen outside result) (⟦<E as Heard>⟧.said errors.old errors.new)
+        result.ending }
 {
     let Answered {
         answer,
@@ -339,16 +327,15 @@ pub fn run_live<R: Read, W: Stamped, E: Says, D: Close, S: Sources, T: Tells + C
     errors: &mut E,
 ) -> GivenBack<Ending, S, W>
     // It is printed before a line is read.
-    ensures unopened { IfErr given.files (λ why. (input.new ≡ input.old) × LiveUnopened T.voice
-        (calling given.sources result.sources)
-        (streams (writing W.contents given.output result.output)
-        (saying E.contents E.tried errors.old errors.new)) result.ending why) }
+    ensures unopened { IfErr given.files
+        (λ why. (input.new ≡ input.old)
+        × LiveUnopened T.voice (passed ⟦<(D, S, W) as Kinds>⟧.seen given result)
+        (⟦<E as Heard>⟧.said errors.old errors.new) result.ending why) }
 
-    ensures files { IfOk given.files (λ disk. LiveEnded (live_setting setting.manner T.voice
-        (source_rules S.after S.wakes S.clock) W.held) (R.remaining input.old)
-        (given_disk (closable D.view D.closed) disk)
-        (calling given.sources result.sources) (streams (writing W.contents given.output
-        result.output) (saying E.contents E.tried errors.old errors.new)) result.ending) }
+    ensures files { IfOk given.files
+        (LiveOpened (live_setting setting.manner T.voice W.held) (R.remaining input.old)
+        (passed ⟦<(D, S, W) as Kinds>⟧.seen given result)
+        (⟦<E as Heard>⟧.said errors.old errors.new) result.ending) }
 {
     let Given {
         files,

@@ -1,16 +1,15 @@
 //! The programs over what a worksheet was, from its files on: `history`, `show --at`, `export --at`, and what
 //! `restore` reads.
 ghost use Rattle.std.specs.Prelude.{◌≡◌, List, IfOk};
-ghost use Rattle.offline_programs.specs.Saying.{saying};
 ghost use Rattle.program_endings.specs.PastProgram.{DiskIsPast, EndsPast, FilesArePast, HistoryEnds, HistoryOf, PastExported, PastShown};
-ghost use Rattle.program_endings.specs.Records.{given_disk, streams, writing};
+ghost use Rattle.program_endings.specs.Records.{writing};
 ghost use Rattle.recovery.specs.Sheets.{Makes};
-ghost use Rattle.sheet_files.specs.Closing.{closable};
 ghost use Rattle.worksheet.specs.declared.op.Op.{Op};
 
 use crate::ending::{answered, ended};
 use crate::export_program::{ExportForm, end_export};
 use crate::messages::NoPast;
+use crate::seeing::{Both, Closes, Heard};
 use crate::telling::no_files;
 use crate::{Ending, end_program};
 use offline_programs::{RunFault, Says, tell_sheet};
@@ -23,14 +22,14 @@ use std::io::Write;
 
 /// Tells on a line why an earlier worksheet can't be had.
 pub fn end_past<E: Says>(why: PastFault, errors: &mut E) -> Ending
-    ensures { EndsPast (saying E.contents E.tried errors.old errors.new) result why }
+    ensures { EndsPast (⟦<E as Heard>⟧.said errors.old errors.new) result why }
 {
     ended(1, errors.say(&NoPast { why }))
 }
 
 /// The worksheet of the first changes on a disk. Where that can't be had the disk is closed.
 fn read_disk<D: Close>(alloc: Global, disk: D, count: u64) -> Result<Rescued<D>, PastFault>
-    ensures read { DiskIsPast (closable D.view D.closed) count disk result }
+    ensures read { DiskIsPast ⟦<D as Closes>⟧.how count disk result }
     ensures made { IfOk result (λ found. (ops : List Op) × Makes ops found.sheet.contents) }
 {
     match read_first(alloc, disk, count) {
@@ -48,7 +47,7 @@ pub fn read_past<D: Close>(
     files: Result<D, FilesFault>,
     count: u64,
 ) -> Result<Rescued<D>, PastFault>
-    ensures read { FilesArePast (closable D.view D.closed) count files result }
+    ensures read { FilesArePast ⟦<D as Closes>⟧.how count files result }
     ensures made { IfOk result (λ found. (ops : List Op) × Makes ops found.sheet.contents) }
 {
     match files {
@@ -65,8 +64,7 @@ pub fn run_show_past<D: Close, W: Write, E: Says>(
     errors: &mut E,
 ) -> Ending
     ensures { PastShown D.closed found
-        (streams (writing W.contents output.old output.new) (saying E.contents E.tried errors.old
-        errors.new)) result }
+        (⟦<(W, E) as Both>⟧.streams output.old output.new errors.old errors.new) result }
 {
     let answer = tell_sheet(&found.sheet, output);
     found.disk.close();
@@ -83,8 +81,7 @@ pub fn run_export_past<D: Close, W: Write, E: Says>(
     errors: &mut E,
 ) -> Ending
     ensures { PastExported D.closed found form.now.format form.now.title.now
-        (streams (writing W.contents output.old output.new) (saying E.contents E.tried errors.old
-        errors.new)) result }
+        (⟦<(W, E) as Both>⟧.streams output.old output.new errors.old errors.new) result }
 {
     let answer = write_in_format(alloc, form.format, form.title, &found.sheet, output);
     found.disk.close();
@@ -93,8 +90,8 @@ pub fn run_export_past<D: Close, W: Write, E: Says>(
 
 /// Lists the changes of a disk, and closes it.
 fn list_disk<D: Close, W: Write>(alloc: Global, disk: D, output: &mut W) -> Result<(), RunFault>
-    ensures { HistoryOf (given_disk (closable D.view D.closed) disk)
-        (writing W.contents output.old output.new) result }
+    ensures { HistoryOf (⟦<D as Closes>⟧.given disk) (writing W.contents output.old output.new)
+        result }
 {
     let Listed { disk, answer } = list_changes(alloc, disk, output);
     disk.close();
@@ -109,9 +106,8 @@ pub fn run_history<D: Close, W: Write, E: Says>(
     output: &mut W,
     errors: &mut E,
 ) -> Ending
-    ensures { HistoryEnds (closable D.view D.closed) files
-        (streams (writing W.contents output.old output.new) (saying E.contents E.tried errors.old
-        errors.new)) result }
+    ensures { HistoryEnds ⟦<D as Closes>⟧.how files
+        (⟦<(W, E) as Both>⟧.streams output.old output.new errors.old errors.new) result }
 {
     let answer = match files {
         Ok(disk) => list_disk(alloc, disk, output),

@@ -1,13 +1,12 @@
 //! The programs over a worksheet's files, from their files on: how each ends, and what it says on
 //! which stream.
 ghost use Rattle.std.specs.Prelude.{◌≡◌, ◌≤◌, IfErr, IfOk};
-ghost use Rattle.offline_programs.specs.Saying.{saying};
 ghost use Rattle.program_endings.specs.Programs.{CreateEnds, ShowEnds, ShownOf, TellsMake};
-ghost use Rattle.program_endings.specs.Records.{given_disk, streams, writing};
-ghost use Rattle.sheet_files.specs.Closing.{closable};
+ghost use Rattle.program_endings.specs.Records.{writing};
 
 use crate::ending::{answered, ended};
 use crate::messages::NotMade;
+use crate::seeing::{Both, Closes, Heard};
 use crate::telling::no_files;
 use crate::{Ending, end_program};
 use child_calls::Children;
@@ -19,7 +18,7 @@ use std::io::Write;
 /// Tells on a line why no worksheet was made.
 pub(crate) fn end_create<E: Says>(why: MakeFault, errors: &mut E) -> Ending
     ensures { (result.status ≡ 1)
-        × TellsMake (saying E.contents E.tried errors.old errors.new) result.reported why }
+        × TellsMake (⟦<E as Heard>⟧.said errors.old errors.new) result.reported why }
 {
     ended(1, errors.say(&NotMade { why }))
 }
@@ -27,8 +26,8 @@ pub(crate) fn end_create<E: Says>(why: MakeFault, errors: &mut E) -> Ending
 /// Lays an empty worksheet on a disk, closes the disk, and tells where that failed why.
 fn create_on<D: Close, E: Says>(disk: D, errors: &mut E) -> Ending
     requires { 11 ≤ (D.view disk).room }
-    ensures { CreateEnds (given_disk (closable D.view D.closed) disk)
-        (saying E.contents E.tried errors.old errors.new) result }
+    ensures { CreateEnds (⟦<D as Closes>⟧.given disk) (⟦<E as Heard>⟧.said errors.old errors.new)
+        result }
 {
     match journal::create(disk) {
         Ok(made) => {
@@ -47,12 +46,14 @@ fn create_on<D: Close, E: Says>(disk: D, errors: &mut E) -> Ending
 pub fn run_create<D: Close, E: Says>(files: Result<D, MakeFault>, errors: &mut E) -> Ending
     requires { IfOk files (λ disk. 11 ≤ (D.view disk).room) }
 
-    ensures no_files { IfErr files (λ why. (result.status ≡ 1)
-        × TellsMake (saying E.contents E.tried errors.old errors.new) result.reported why) }
+    ensures no_files { IfErr files
+        (λ why. (result.status ≡ 1)
+        × TellsMake (⟦<E as Heard>⟧.said errors.old errors.new) result.reported why) }
 
     // What becomes of the disk, and what is said of it.
-    ensures files { IfOk files (λ disk. CreateEnds (given_disk (closable D.view D.closed) disk)
-        (saying E.contents E.tried errors.old errors.new) result) }
+    ensures files { IfOk files
+        (λ disk. CreateEnds (⟦<D as Closes>⟧.given disk) (⟦<E as Heard>⟧.said errors.old errors.new)
+        result) }
 {
     match files {
         Ok(disk) => create_on(disk, errors),
@@ -62,8 +63,8 @@ pub fn run_create<D: Close, E: Says>(files: Result<D, MakeFault>, errors: &mut E
 
 /// Writes the worksheet of a disk, and closes the disk at the end.
 fn show_disk<D: Close, W: Write>(alloc: Global, disk: D, output: &mut W) -> Result<bool, RunFault>
-    ensures { ShownOf (given_disk (closable D.view D.closed) disk)
-        (writing W.contents output.old output.new) result }
+    ensures { ShownOf (⟦<D as Closes>⟧.given disk) (writing W.contents output.old output.new)
+        result }
 {
     let Shown { disk, answer } = show(alloc, disk, output);
     disk.close();
@@ -78,9 +79,8 @@ pub fn run_show<D: Close, W: Write, E: Says>(
     output: &mut W,
     errors: &mut E,
 ) -> Ending
-    ensures { ShowEnds (closable D.view D.closed) files
-        (streams (writing W.contents output.old output.new) (saying E.contents E.tried errors.old
-        errors.new)) result }
+    ensures { ShowEnds ⟦<D as Closes>⟧.how files
+        (⟦<(W, E) as Both>⟧.streams output.old output.new errors.old errors.new) result }
 {
     let answer = match files {
         Ok(disk) => show_disk(alloc, disk, output),

@@ -1,15 +1,13 @@
 //! The program `rescue` over a worksheet's files, from its files on.
 ghost use Rattle.std.specs.Prelude.{◌≡◌, ◌≤◌, List, IfErr, IfOk, Result};
-ghost use Rattle.offline_programs.specs.Saying.{saying};
 ghost use Rattle.program_endings.specs.Programs.{TellsMake};
-ghost use Rattle.program_endings.specs.Records.{given_disk};
 ghost use Rattle.program_endings.specs.RescueProgram.{DiskIsRead, FilesAreRead, RescueDone, RescueEnds, TellsRescueFault, TellsRescued, rescue_status, said_streams};
-ghost use Rattle.sheet_files.specs.Closing.{closable};
 ghost use Rattle.recovery.specs.Sheets.{Makes};
 ghost use Rattle.worksheet.specs.declared.op.Op.{Op};
 
 use crate::ending::ended;
 use crate::programs::end_create;
+use crate::seeing::{Closes, Heard};
 use crate::telling::no_files;
 use crate::{Ending, end_program};
 use disk_model::Disk;
@@ -21,7 +19,7 @@ use std::alloc::Global;
 
 /// What stands on a worksheet's disk before the first damage. Where that can't be had the disk is closed.
 fn read_disk<D: Close>(alloc: Global, disk: D) -> Result<Rescued<D>, RunFault>
-    ensures read { DiskIsRead (closable D.view D.closed) disk result }
+    ensures read { DiskIsRead ⟦<D as Closes>⟧.how disk result }
     ensures made { IfOk result (λ found. (ops : List Op) × Makes ops found.sheet.contents) }
 {
     match read_front(alloc, disk) {
@@ -38,7 +36,7 @@ pub fn read_rescued<D: Close>(
     alloc: Global,
     files: Result<D, FilesFault>,
 ) -> Result<Rescued<D>, RunFault>
-    ensures read { FilesAreRead (closable D.view D.closed) files result }
+    ensures read { FilesAreRead ⟦<D as Closes>⟧.how files result }
     ensures made { IfOk result (λ found. (ops : List Op) × Makes ops found.sheet.contents) }
 {
     match files {
@@ -50,7 +48,7 @@ pub fn read_rescued<D: Close>(
 /// Tells on a line why nothing was rescued.
 fn refuse_rescue<E: Says>(why: RescueFault, errors: &mut E) -> Ending
     ensures { (result.status ≡ 1)
-        × TellsRescueFault (saying E.contents E.tried errors.old errors.new) result.reported why }
+        × TellsRescueFault (⟦<E as Heard>⟧.said errors.old errors.new) result.reported why }
 {
     match why {
         RescueFault::NotEmpty => end_create(MakeFault::Create(CreateCause::NotEmpty), errors),
@@ -61,7 +59,7 @@ fn refuse_rescue<E: Says>(why: RescueFault, errors: &mut E) -> Ending
 /// Ends the program by what the writing of the new worksheet answered.
 fn end_rescue<E: Says>(answer: Result<(), RescueFault>, errors: &mut E) -> Ending
     ensures { (result.status ≡ rescue_status answer)
-        × TellsRescued (saying E.contents E.tried errors.old errors.new) result.reported answer }
+        × TellsRescued (⟦<E as Heard>⟧.said errors.old errors.new) result.reported answer }
 {
     match answer {
         Ok(()) => ended(0, true),
@@ -79,9 +77,9 @@ fn rescue_on<D: Disk, N: Close, W: Says, E: Says>(
 ) -> Ending
     requires room { 11 ≤ (N.view disk).room }
     requires made { (ops : List Op) × Makes ops found.now.sheet.contents }
-    ensures { RescueDone (given_disk (closable N.view N.closed) disk) found.now
-        (said_streams (saying W.contents W.tried output.old output.new)
-        (saying E.contents E.tried errors.old errors.new)) result }
+    ensures { RescueDone (⟦<N as Closes>⟧.given disk) found.now
+        (said_streams (⟦<W as Heard>⟧.said output.old output.new)
+        (⟦<E as Heard>⟧.said errors.old errors.new)) result }
 {
     let Saved { disk, answer } = save_rescued(alloc, found, disk, output);
     disk.close();
@@ -99,14 +97,15 @@ fn rescue_to<D: Disk, N: Close, W: Says, E: Says>(
     requires room { IfOk files (λ disk. 11 ≤ (N.view disk).room) }
     requires made { (ops : List Op) × Makes ops found.now.sheet.contents }
 
-    ensures no_files { IfErr files (λ why. (output.new ≡ output.old) × (result.status ≡ 1)
-        × TellsMake (saying E.contents E.tried errors.old errors.new) result.reported why) }
+    ensures no_files { IfErr files
+        (λ why. (output.new ≡ output.old) × (result.status ≡ 1)
+        × TellsMake (⟦<E as Heard>⟧.said errors.old errors.new) result.reported why) }
 
     // What becomes of the disk, and what is said of it.
-    ensures files { IfOk files (λ disk. RescueDone (given_disk (closable N.view N.closed) disk)
-        found.now
-        (said_streams (saying W.contents W.tried output.old output.new)
-        (saying E.contents E.tried errors.old errors.new)) result) }
+    ensures files { IfOk files
+        (λ disk. RescueDone (⟦<N as Closes>⟧.given disk) found.now
+        (said_streams (⟦<W as Heard>⟧.said output.old output.new)
+        (⟦<E as Heard>⟧.said errors.old errors.new)) result) }
 {
     match files {
         Ok(disk) => rescue_on(alloc, found, disk, output, errors),
@@ -126,9 +125,9 @@ pub fn run_rescue<D: Close, N: Close, W: Says, E: Says>(
 ) -> Ending
     requires room { IfOk files (λ disk. 11 ≤ (N.view disk).room) }
     requires made { (ops : List Op) × Makes ops found.sheet.contents }
-    ensures { RescueEnds D.closed (closable N.view N.closed) files found
-        (said_streams (saying W.contents W.tried output.old output.new)
-        (saying E.contents E.tried errors.old errors.new)) result }
+    ensures { RescueEnds D.closed ⟦<N as Closes>⟧.how files found
+        (said_streams (⟦<W as Heard>⟧.said output.old output.new)
+        (⟦<E as Heard>⟧.said errors.old errors.new)) result }
 {
     let ending = rescue_to(alloc, &found, files, output, errors);
     found.disk.close();

@@ -1,18 +1,14 @@
 //! The program `run` over a worksheet's files, in words and without a limit of time, from its files on.
 ghost use Rattle.std.specs.Prelude.{◌≡◌, IfErr, IfOk, None, Some};
-ghost use Rattle.driver.specs.Place.{source_rules};
-ghost use Rattle.live.specs.Records.{line_by_line};
-ghost use Rattle.program_endings.specs.LiveProgram.{LiveEnded, live_setting};
-ghost use Rattle.offline_programs.specs.Saying.{saying};
+ghost use Rattle.program_endings.specs.LiveProgram.{LiveEnded};
 ghost use Rattle.program_endings.specs.Programs.{EndsUnopened};
-ghost use Rattle.program_endings.specs.Records.{calling, given_disk, streams, writing};
 ghost use Rattle.program_endings.specs.ScriptProgram as meant;
-ghost use Rattle.program_endings.specs.ScriptProgram.{RunsRead, RunsWhole, ScriptEnds};
-ghost use Rattle.sheet_files.specs.Closing.{closable};
-ghost use Rattle.tellings.specs.Words.{in_words};
+ghost use Rattle.program_endings.specs.ScriptProgram.{RunsRead, RunsWhole, ScriptEnds, ScriptOpened, script_setting};
+ghost use Rattle.program_endings.specs.Passing.{passed, run};
 
 use crate::live_program::{LineSetting, end_live};
 use crate::passing::{Given, GivenBack};
+use crate::seeing::{Heard, Kinds};
 use crate::strict_program::end_strict;
 use crate::telling::no_files;
 use crate::{Ending, end_program};
@@ -63,12 +59,9 @@ fn run_by_lines<W: Stamped, E: Says, D: Close, S: Sources>(
     outside: Outside<D, S, W>,
     errors: &mut E,
 ) -> GivenBack<Ending, S, W>
-    ensures { LiveEnded (live_setting (line_by_line None strict) in_words
-        (source_rules S.after S.wakes S.clock) W.held) (Some script.now)
-        (given_disk (closable D.view D.closed) outside.disk) (calling outside.sources
-        result.sources)
-        (streams (writing W.contents outside.output result.output)
-        (saying E.contents E.tried errors.old errors.new)) result.ending }
+    ensures { LiveEnded (script_setting strict W.held) (Some script.now)
+        (run ⟦<(D, S, W) as Kinds>⟧.seen outside result) (⟦<E as Heard>⟧.said errors.old errors.new)
+        result.ending }
 {
     let setting = LineSetting {
         alloc,
@@ -91,12 +84,9 @@ fn run_as_script<W: Stamped, E: Says, D: Close, S: Sources>(
     outside: Outside<D, S, W>,
     errors: &mut E,
 ) -> GivenBack<Ending, S, W>
-    ensures { RunsWhole (live_setting (line_by_line None strict) in_words
-        (source_rules S.after S.wakes S.clock) W.held) script.now
-        (given_disk (closable D.view D.closed) outside.disk) (calling outside.sources
-        result.sources)
-        (streams (writing W.contents outside.output result.output)
-        (saying E.contents E.tried errors.old errors.new)) result.ending }
+    ensures { RunsWhole (script_setting strict W.held) script.now
+        (run ⟦<(D, S, W) as Kinds>⟧.seen outside result) (⟦<E as Heard>⟧.said errors.old errors.new)
+        result.ending }
 {
     let Ran { outside, answer } = run_read(alloc, script, strict, outside);
     let Outside {
@@ -120,12 +110,9 @@ fn run_whole<W: Stamped, E: Says, D: Close, S: Sources>(
     outside: Outside<D, S, W>,
     errors: &mut E,
 ) -> GivenBack<Ending, S, W>
-    ensures { RunsRead (live_setting (line_by_line None strict) in_words
-        (source_rules S.after S.wakes S.clock) W.held) script.now
-        (given_disk (closable D.view D.closed) outside.disk) (calling outside.sources
-        result.sources)
-        (streams (writing W.contents outside.output result.output)
-        (saying E.contents E.tried errors.old errors.new)) result.ending }
+    ensures { RunsRead (script_setting strict W.held) script.now
+        (run ⟦<(D, S, W) as Kinds>⟧.seen outside result) (⟦<E as Heard>⟧.said errors.old errors.new)
+        result.ending }
 {
     if has_form(alloc, script) {
         run_by_lines(alloc, strict, script, outside, errors)
@@ -142,12 +129,9 @@ fn run_on<R: Read, W: Stamped, E: Says, D: Close, S: Sources>(
     outside: Outside<D, S, W>,
     errors: &mut E,
 ) -> GivenBack<Ending, S, W>
-    ensures { ScriptEnds (live_setting (line_by_line None strict) in_words
-        (source_rules S.after S.wakes S.clock) W.held) (R.remaining input.old)
-        (given_disk (closable D.view D.closed) outside.disk) (calling outside.sources
-        result.sources)
-        (streams (writing W.contents outside.output result.output)
-        (saying E.contents E.tried errors.old errors.new)) result.ending }
+    ensures { ScriptEnds (script_setting strict W.held) (R.remaining input.old)
+        (run ⟦<(D, S, W) as Kinds>⟧.seen outside result) (⟦<E as Heard>⟧.said errors.old errors.new)
+        result.ending }
 {
     match read_input(alloc, input) {
         Ok(whole) => run_whole(alloc, strict, whole.as_slice(), outside, errors),
@@ -182,16 +166,15 @@ pub fn run_script<R: Read, W: Stamped, E: Says, D: Close, S: Sources>(
     errors: &mut E,
 ) -> GivenBack<Ending, S, W>
     // Why there are no files is printed; the input isn't read.
-    ensures unopened { IfErr given.files (λ why. (input.new ≡ input.old) × EndsUnopened
-        (calling given.sources result.sources)
-        (streams (writing W.contents given.output result.output)
-        (saying E.contents E.tried errors.old errors.new)) result.ending why) }
+    ensures unopened { IfErr given.files
+        (λ why. (input.new ≡ input.old)
+        × EndsUnopened (passed ⟦<(D, S, W) as Kinds>⟧.seen given result)
+        (⟦<E as Heard>⟧.said errors.old errors.new) result.ending why) }
 
-    ensures files { IfOk given.files (λ disk. ScriptEnds (live_setting (line_by_line None strict)
-        in_words (source_rules S.after S.wakes S.clock) W.held) (R.remaining input.old)
-        (given_disk (closable D.view D.closed) disk) (calling given.sources result.sources)
-        (streams (writing W.contents given.output result.output)
-        (saying E.contents E.tried errors.old errors.new)) result.ending) }
+    ensures files { IfOk given.files
+        (ScriptOpened (script_setting strict W.held) (R.remaining input.old)
+        (passed ⟦<(D, S, W) as Kinds>⟧.seen given result)
+        (⟦<E as Heard>⟧.said errors.old errors.new) result.ending) }
 {
     let Given {
         files,

@@ -2,11 +2,9 @@
 ghost use Rattle.std.specs.Prelude.{◌≡◌, ◌++◌, ◌∷◌, ◌+◌, ◌<◌, ◌^◌, ◌&&◌, ◌==◌, [], Err, List, OnOk};
 ghost use Rattle.std.specs.Io.KnownBytes.{Appends};
 ghost use Rattle.offline_programs.specs.declared.fault.RunFault.TheVariants as fault;
-ghost use Rattle.offline_programs.specs.Saying.{saying};
 ghost use Rattle.sheet_check.specs.declared.named.CheckFault.TheVariants as checks;
 ghost use Rattle.check_report.specs.Words.{errors_part, new_part};
 ghost use Rattle.program_endings.specs.Ending.{EndsAs};
-ghost use Rattle.program_endings.specs.Records.{streams, writing};
 ghost use Rattle.program_endings.specs.SeveralProgram.{IsBounded, TotalEnds, ending_of, faults_part, summed_part, total_of, total_text, worksheet_line};
 ghost use Rattle.program_endings.specs.SeveralProgram as several;
 ghost use Rattle.program_endings.specs.inside.Totals as inside;
@@ -15,6 +13,7 @@ ghost use Rattle.program_endings.specs.declared.ending.Ending.{Ending};
 
 use crate::check_program::CheckEnding;
 use crate::ending::ended;
+use crate::seeing::{Both, Heard};
 use crate::{Ending, end_program};
 use check_report::{Counts, write_and_flush};
 use offline_programs::{RunFault, Says};
@@ -183,7 +182,7 @@ pub fn tell_worksheet<W: Write>(path: &str, output: &mut W) -> Result<(), WriteF
 /// Ends the check of a worksheet above whose report no line could be written: nothing of it was done.
 pub fn end_unwritten<E: Says>(errors: &mut E) -> CheckEnding
     ensures answer { result.answer ≡ Err (checks.Run fault.Output) }
-    ensures ends { EndsAs (saying E.contents E.tried errors.old errors.new) result.ending
+    ensures ends { EndsAs (⟦<E as Heard>⟧.said errors.old errors.new) result.ending
         (Err fault.Output) }
 {
     let ending = end_program(Err(RunFault::Output), errors);
@@ -260,8 +259,8 @@ fn write_total<W: Write>(total: Total, out: &mut W) -> Result<(), WriteFault>
 
 /// The end of a check whose total can't be written.
 fn end_unsummed<E: Says>(total: Total, errors: &mut E) -> Ending
-    ensures { (last : Ending) × EndsAs (saying E.contents E.tried errors.old errors.new) last
-        (Err fault.Output)
+    ensures { (last : Ending)
+        × EndsAs (⟦<E as Heard>⟧.said errors.old errors.new) last (Err fault.Output)
         × (result ≡ record { status = 1; reported = total.reported && last.reported }) }
 {
     let last = end_program(Err(RunFault::Output), errors);
@@ -272,8 +271,7 @@ fn end_unsummed<E: Says>(total: Total, errors: &mut E) -> Ending
 /// it is the fault `Output`, with its line on `errors`.
 pub fn end_total<W: Write, E: Says>(total: Total, output: &mut W, errors: &mut E) -> Ending
     ensures { TotalEnds total
-        (streams (writing W.contents output.old output.new) (saying E.contents E.tried errors.old
-        errors.new)) result }
+        (⟦<(W, E) as Both>⟧.streams output.old output.new errors.old errors.new) result }
 {
     match write_total(total, output) {
         Ok(()) => total.ending(),

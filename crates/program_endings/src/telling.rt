@@ -1,10 +1,10 @@
 //! What a program tells that has no files of a worksheet, or no place of a stream.
 ghost use Rattle.std.specs.Prelude.{◌≡◌, Err, OnOk};
 ghost use Rattle.std.specs.Io.KnownBytes.{Appends};
-ghost use Rattle.offline_programs.specs.Saying.{saying};
 ghost use Rattle.program_endings.specs.Ending.{TellsFault};
 ghost use Rattle.program_endings.specs.Faults as printed;
 
+use crate::seeing::Heard;
 use crate::{Ending, end_program};
 use journal::{CreateCause, OpenCause};
 use offline_programs::{RunFault, Says};
@@ -36,7 +36,7 @@ fn no_place(why: HoldFault) -> RunFault
 /// Ends a program that can't hold the place of a closed stream: the fault is printed on a line.
 pub fn end_unheld<E: Says>(why: HoldFault, errors: &mut E) -> Ending
     ensures status { result.status ≡ 1 }
-    ensures reported { TellsFault (saying E.contents E.tried errors.old errors.new) result.reported
+    ensures reported { TellsFault (⟦<E as Heard>⟧.said errors.old errors.new) result.reported
         (Err (printed.no_place why)) }
 {
     end_program(Err(no_place(why)), errors)

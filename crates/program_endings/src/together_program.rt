@@ -1,13 +1,11 @@
 //! The program `check` over a worksheet's files, from its files on, whose fields go side by side.
 ghost use Rattle.std.specs.Prelude.{Result};
-ghost use Rattle.sheet_files.specs.Closing.{closable};
-ghost use Rattle.offline_programs.specs.Saying.{saying};
-ghost use Rattle.program_endings.specs.Records.{calling, given_disk, streams, writing};
 ghost use Rattle.program_endings.specs.TogetherProgram.{TogetherDone, TogetherEnds};
-ghost use Rattle.sheet_check.specs.Together.{together_by};
+ghost use Rattle.program_endings.specs.Passing.{passed, run};
 
 use crate::check_program::{CheckEnding, end_check, end_unopened};
 use crate::passing::{Given, GivenBack};
+use crate::seeing::{Heard, Kinds};
 use arrivals::Sources;
 use offline_programs::Says;
 use script_agenda::Outside;
@@ -22,12 +20,9 @@ fn check_together_on<D: Close, C: Sources, P: Progress, W: Write, E: Says>(
     progress: &mut P,
     errors: &mut E,
 ) -> GivenBack<CheckEnding, C, W>
-    ensures { TogetherDone
-        (together_by C.after C.clock C.wakes beside.now.jobs beside.now.manner.request.now)
-        (given_disk (closable D.view D.closed) outside.disk) (calling outside.sources
-        result.sources)
-        (streams (writing W.contents outside.output result.output)
-        (saying E.contents E.tried errors.old errors.new)) result.ending }
+    ensures { TogetherDone beside.now.jobs beside.now.manner.request.now
+        (run ⟦<(D, C, W) as Kinds>⟧.seen outside result) (⟦<E as Heard>⟧.said errors.old errors.new)
+        result.ending }
 {
     let Outside {
         disk,
@@ -58,11 +53,9 @@ pub fn run_check_together<D: Close, C: Sources, P: Progress, W: Write, E: Says>(
     progress: &mut P,
     errors: &mut E,
 ) -> GivenBack<CheckEnding, C, W>
-    ensures { TogetherEnds (closable D.view D.closed)
-        (together_by C.after C.clock C.wakes beside.now.jobs beside.now.manner.request.now)
-        given.files (calling given.sources result.sources)
-        (streams (writing W.contents given.output result.output)
-        (saying E.contents E.tried errors.old errors.new)) result.ending }
+    ensures { TogetherEnds beside.now.jobs beside.now.manner.request.now given.files
+        (passed ⟦<(D, C, W) as Kinds>⟧.seen given result)
+        (⟦<E as Heard>⟧.said errors.old errors.new) result.ending }
 {
     let Given {
         files,

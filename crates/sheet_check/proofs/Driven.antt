@@ -1,5 +1,5 @@
 -- What a driver did that evaluated fields of a copy.
-use Rattle.std.proofs.Common.{◌≡◌, ◌∙◌, inl, inr, ℕ, ◌+◌, true, List, [], ◌∷◌, ◌++◌, None, Some, ap, refl, sym, subst, append_assoc, append-nil, arith, Ok, Err}
+use Rattle.std.proofs.Common.{◌≡◌, ◌∙◌, inl, inr, ℕ, ◌+◌, false, true, List, [], ◌∷◌, ◌++◌, None, Some, ap, refl, sym, subst, append_assoc, append-nil, arith, Ok, Err}
 use Rattle.std.proofs.lemmas.Bool.{true≢false}
 use Rattle.std.specs.Prelude.{◌⊎◌, IfErr, IfOk, OnOk, Result, is_ok}
 use Rattle.std.specs.List.{flat_map}

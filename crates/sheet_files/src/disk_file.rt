@@ -29,13 +29,17 @@ pub trait DiskFile {
     /// A sync of its data: the file before it, the answer, and the file after it.
     ghost synced: { Self → Result (Unit {0}) Error → Self → Type 0 };
 
+    /// The file, and from which moment on it says that nothing has happened to it.
+    ghost began: { Self → Result ℕ Error → Type 0 };
+
     /// The file was let go as it is.
     ghost let_go: { Self → Type 0 };
 
     /// A moment from which on nothing has happened to the file. It fails where a sync of this
     /// opening has failed.
     fn begins(&self) -> io::Result<u64>
-        ensures { IfOk result (λ moment. IsFresh moment (view self.now)) };
+        ensures asked { began self.now result }
+        ensures fresh { IfOk result (λ moment. IsFresh moment (view self.now)) };
 
     /// Whether it was opened to read alone. Only then may a sync that failed have had nothing to bring out.
     fn is_read_only(&self) -> bool
@@ -99,6 +103,7 @@ pub struct OpenedFile<F: Drop> {
 
 /// Of its bytes nothing is claimed. Each call is one of the system's file, with the same answer, and none gets the moment.
 impl<F: SystemFile + Drop> DiskFile for OpenedFile<F> {
+    ghost use Rattle.std.specs.Prelude.{◌≡◌, Ok};
     ghost use Rattle.disk_model.specs.Disk.{unclaimed};
 
     ghost view = { λ opened. unclaimed_file opened.reads_only };
@@ -110,6 +115,8 @@ impl<F: SystemFile + Drop> DiskFile for OpenedFile<F> {
     ghost written = { λ old bytes offset result new. F.puts old.file bytes offset result new.file };
 
     ghost synced = { λ old result new. F.flushes old.file result new.file };
+
+    ghost began = { λ _ result. result ≡ Ok 0 };
 
     ghost let_go = { λ opened. F.ends opened.file };
 

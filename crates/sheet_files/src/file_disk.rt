@@ -1,12 +1,10 @@
 //! A disk of two files.
-ghost use Rattle.std.specs.Prelude.{◌≡◌, ◌+◌, ◌≤◌, IfOk, IsErr, Ok, MatchResult, OnOk, length, take, drop, false, string_bytes};
+ghost use Rattle.std.specs.Prelude.{◌≡◌, ◌+◌, ◌≤◌, IfErr, IfOk, IsErr, Ok, MatchResult, OnOk, length, take, drop, false};
 ghost use Rattle.disk_model.specs.Disk.{Called, InModel, Syncs, Writes, area_of, bytes_on, greatest_room};
 ghost use Rattle.sheet_files.specs.DiskFile.{FileSynced, InFile, IsStill, LetGo, Passes, SecondLetGo, WithoutFailure, second_of, tells_nothing_to_sync, two_files};
-ghost use Rattle.sheet_files.specs.Names.{DiskMade, DiskOpened, DiskRead, second_name};
 ghost use Rattle.sheet_files.specs.declared.sheet_file.Lock.TheVariants.{Shared, Exclusive};
 
-use crate::pairing::second_path;
-use crate::{DiskFile, FilesFault, Lock, MakeFault, Names, opening};
+use crate::{DiskFile, FilesFault, Lock, MakeFault, Openings, Pair};
 use disk_model::{Area, Disk, DiskFault, GREATEST_ROOM};
 use std::alloc::Global;
 use std::io;
@@ -80,41 +78,26 @@ fn sync_failed() -> io::Error {
     io::Error::from(ErrorKind::Other)
 }
 
-/// The path of the file that a path leads to, and the one of the second file beside that.
-fn found_paths<F, N: Names<F>>(
-    names: &mut N,
-    alloc: Global,
-    path: &str,
-) -> io::Result<(String, String)>
-    ensures found { IfOk result (λ paths. N.leads names.old path.now (string_bytes paths.0)
-        names.new) }
-    ensures second { IfOk result (λ paths. string_bytes paths.1 ≡ second_name
-        (string_bytes paths.0)) }
-{
-    let found = names.resolve(alloc, path)?;
-    let second = second_path(alloc, found.as_str())?;
-    Ok((found, second))
-}
-
 impl<F: DiskFile + Drop> FileDisk<F> {
+    ghost use Rattle.sheet_files.specs.Openings.{HasGiven, NotBegun, pair_of};
+
     /// Makes both files, empty, first the one at `path`, which is locked before the other is made.
     /// They and their names are durable once it answers. `NotEmpty` where either exists, a folder and a
     /// link that leads nowhere included, and nothing was made. `SecondFile` where the other file of a
     /// worksheet lies at `path`, or would lie there. `InUse` where another program took a
     /// new file before it was locked. `Disk` where a file can't be made, an empty path and lack of
     /// memory for a path included; a file that was made stays.
-    pub fn create<N: Names<F>>(
+    pub fn create<N: Openings<F>>(
         names: &mut N,
         alloc: Global,
         path: &str,
     ) -> Result<FileDisk<F>, MakeFault>
-        ensures made { IfOk result (λ disk. DiskMade N.Names path.now disk.first disk.second
-            names.old names.new) }
+        ensures made { HasGiven (λ disk. pair_of disk.first disk.second)
+            (N.makes_pair names.old path.now) F.began result names.new }
         ensures lock { IfOk result (λ disk. disk.lock ≡ Exclusive) }
     {
-        let alt = second_path(alloc, path)?;
-        let (first, second) = opening::create(names, path, alt.as_str())?;
-        Ok(FileDisk::of(first, Some(second), Lock::Exclusive)?)
+        let Pair { first, second } = names.make_pair(alloc, path)?;
+        Ok(FileDisk::of(first, second, Lock::Exclusive)?)
     }
 
     /// Opens both files, first the one that `path` leads to, which is locked before anything is read
@@ -126,34 +109,32 @@ impl<F: DiskFile + Drop> FileDisk<F> {
     /// file that has another name, a second file that is a link or the first one, one that may not be read
     /// and written, one that is longer than an area may be, also where the worksheet lies in the other, a
     /// folder that can't be read or synced, and lack of memory for a path.
-    pub fn open<N: Names<F>>(
+    pub fn open<N: Openings<F>>(
         names: &mut N,
         alloc: Global,
         path: &str,
     ) -> Result<FileDisk<F>, FilesFault>
-        ensures opened { IfOk result (λ disk. DiskOpened N.Names path.now disk.first disk.second
-            names.old names.new) }
+        ensures opened { HasGiven (λ disk. pair_of disk.first disk.second)
+            (N.opens_pair names.old path.now) F.began result names.new }
         ensures lock { IfOk result (λ disk. disk.lock ≡ Exclusive) }
     {
-        let (path, alt) = found_paths(names, alloc, path)?;
-        let (first, second) = opening::open(names, path.as_str(), alt.as_str())?;
-        Ok(FileDisk::of(first, Some(second), Lock::Exclusive)?)
+        let Pair { first, second } = names.open_pair(alloc, path)?;
+        Ok(FileDisk::of(first, second, Lock::Exclusive)?)
     }
 
     /// Opens the files to read alone: the locks are such that other readers may have too, the files needn't
     /// be such that they may be written, no second file is made, no folder is synced, and each write is a
     /// failure of the disk, like each call on a second file that is missing, be the worksheet there or not.
-    pub fn open_to_read<N: Names<F>>(
+    pub fn open_to_read<N: Openings<F>>(
         names: &mut N,
         alloc: Global,
         path: &str,
     ) -> Result<FileDisk<F>, FilesFault>
-        ensures opened { IfOk result (λ disk. DiskRead N.Names path.now disk.first disk.second
-            names.old names.new) }
+        ensures opened { HasGiven (λ disk. pair_of disk.first disk.second)
+            (N.reads_pair names.old path.now) F.began result names.new }
         ensures lock { IfOk result (λ disk. disk.lock ≡ Shared) }
     {
-        let (path, alt) = found_paths(names, alloc, path)?;
-        let (first, second) = opening::open_to_read(names, path.as_str(), alt.as_str())?;
+        let Pair { first, second } = names.read_pair(alloc, path)?;
         Ok(FileDisk::of(first, second, Lock::Shared)?)
     }
 
@@ -163,6 +144,7 @@ impl<F: DiskFile + Drop> FileDisk<F> {
         ensures second { IfOk result (λ disk. disk.second ≡ second) }
         ensures lock { IfOk result (λ disk. disk.lock ≡ lock) }
         ensures sound { IfOk result (λ disk. disk.failed ≡ false) }
+        ensures err { IfErr result (λ _. NotBegun F.began first second) }
     {
         let begins = first.begins()?;
         let moment = match &second {

@@ -120,6 +120,8 @@ impl DiskFile for MemoryFile {
 
     ghost synced = { λ _ _ _. Unit {0} };
 
+    ghost began = { λ _ _. Unit {0} };
+
     ghost let_go = { λ _. Unit {0} };
 
     ghost content_stays = { λ file kept moment still.

@@ -1,11 +1,10 @@
 //! Where worksheets lie.
 ghost use Rattle.std.specs.Prelude.{◌≤◌, ℕ, Bool, List, Result, IfOk};
-ghost use Rattle.sheet_files.specs.Names.{DiskMade, DiskOpened, DiskRead};
 ghost use Rattle.sheet_files.specs.declared.files_fault.FilesFault.{FilesFault};
 ghost use Rattle.sheet_files.specs.declared.files_fault.HoldFault.{HoldFault};
 ghost use Rattle.sheet_files.specs.declared.files_fault.MakeFault.{MakeFault};
 
-use crate::{DiskFile, FileDisk, FilesFault, HoldFault, MakeFault, Names};
+use crate::{DiskFile, FileDisk, FilesFault, HoldFault, MakeFault, Openings};
 use disk_model::Disk;
 use std::alloc::Global;
 
@@ -60,19 +59,21 @@ impl<N: Drop> FilePlaces<N> {
     }
 }
 
-impl<F: DiskFile + Drop, N: Names<F> + Drop> Places<FileDisk<F>> for FilePlaces<N> {
+impl<F: DiskFile + Drop, N: Openings<F> + Drop> Places<FileDisk<F>> for FilePlaces<N> {
+    ghost use Rattle.sheet_files.specs.Openings.{HasGiven, pair_of};
+
     ghost holds = { λ old result new. N.holds old.names result new.names };
 
-    ghost creates = { λ old path result new. IfOk result (λ disk. DiskMade N.Names path disk.first disk.second old.names new.names) };
+    ghost creates = { λ old path result new. HasGiven (λ disk. pair_of disk.first disk.second) (N.makes_pair old.names path) F.began result new.names };
 
-    ghost opens = { λ old path result new. IfOk result (λ disk. DiskOpened N.Names path disk.first disk.second old.names new.names) };
+    ghost opens = { λ old path result new. HasGiven (λ disk. pair_of disk.first disk.second) (N.opens_pair old.names path) F.began result new.names };
 
-    ghost reads = { λ old path result new. IfOk result (λ disk. DiskRead N.Names path disk.first disk.second old.names new.names) };
+    ghost reads = { λ old path result new. HasGiven (λ disk. pair_of disk.first disk.second) (N.reads_pair old.names path) F.began result new.names };
 
     ghost finds = { λ places name is_there. N.finds places.names name is_there };
 
     fn hold(&mut self) -> Result<(), HoldFault> {
-        self.names.hold()
+        self.names.hold_places()
     }
 
     fn create(&mut self, path: &str) -> Result<FileDisk<F>, MakeFault> {
@@ -88,6 +89,6 @@ impl<F: DiskFile + Drop, N: Names<F> + Drop> Places<FileDisk<F>> for FilePlaces<
     }
 
     fn has_program(&self, name: &[u8]) -> bool {
-        self.names.has_program(name)
+        self.names.is_program(name)
     }
 }

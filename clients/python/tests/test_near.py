@@ -1,8 +1,9 @@
 """Which words are misspellings of which."""
 import unittest
 
-from tmhost_fences.meant import adapter_meant
-from tmhost_fences.near import distance, near
+import support  # the place of the package
+
+from tmhost.near import distance, near
 
 WORDS = ("gp", "py", "answer", "error", "maxima", "tex")
 
@@ -21,17 +22,6 @@ class Near(unittest.TestCase):
     def test_the_nearest_one_is_meant(self) -> None:
         self.assertEqual(near("answerr", ("anwsers", "answer")), "answer")
         self.assertEqual(near("gp3", ("gp1", "gp2")), "gp1")
-
-    def test_adapters(self) -> None:
-        """Of the words of a session: a command that is misspelt, or another name of its language."""
-        adapters = ("python", "gp", "R", "sh", "octave", "node", "jupyter", "maxima")
-        for word, meant in (
-            ("tmhost-pyhton", "python"), ("tmhost-pythn", "python"), ("tmhost-Python", "python"), ("tmhost-py", "python"), ("tmhost-r", "R"), ("tmhost-bash", "sh"),
-            ("tmhost-ocatve", "octave"), ("tmhsot-python", "python"), ("tmhost_gp", "gp"), ("TMhost-gp", "gp"), ("tmhost-js", "node"), ("tmhost-jupiter", "jupyter"),
-        ):
-            self.assertEqual(adapter_meant(word, adapters), "tmhost-" + meant, word)
-        for word in ("tmhost-python", "tmhost-gp", "tmhost-bc", "tmhost-nothing", "tmhost-", "tmhost", "python3", "sh", "host-gp", "tm", ""):
-            self.assertIsNone(adapter_meant(word, adapters), word)
 
     def test_letters_that_changed_places_are_one(self) -> None:
         self.assertEqual([distance(*pair) for pair in (("anwser", "answer"), ("", "abc"), ("abc", ""), ("same", "same"), ("ab", "ba"), ("ab", "cd"))], [1, 3, 3, 0, 1, 2])

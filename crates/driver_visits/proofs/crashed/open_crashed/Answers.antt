@@ -1,0 +1,15 @@
+use Rattle.std.proofs.Common.{refl}
+use Rattle.disk_model.specs.Memory.{view_of}
+use Rattle.driver_visits.proofs.crashed.open_crashed.Goals as goal
+
+pub returns-in-Ok : goal.returns-in-Ok
+returns-in-Ok c =
+    let left = c.in-Ok.ensures in
+    record {
+      state = left.state;
+      at = left.at_moment;
+      crash = view_of c.in-Ok.image;
+      image = left.image;
+      keeps_model = refl;
+      opens = c.opened_after.ensures.programs;
+    }

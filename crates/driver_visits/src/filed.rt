@@ -1,0 +1,48 @@
+//! One acceptance, and an opening after it.
+ghost use Rattle.disk_model.specs.Disk.{InModel};
+ghost use Rattle.driver_visits.specs.Filed.{AcceptsThenOpens};
+
+use arrivals::Sources;
+use check_report::Counts;
+use disk_model::Disk;
+use journal::OpenFault;
+use session_engine::Host;
+use sheet_check::{CheckFault, Checked, Manner, Progress, check_accepting};
+use std::io::Write;
+use theorem::opened_after;
+
+/// What an acceptance gave back and answered, and what is opened on its disk after it.
+#[derive(Drop)]
+pub struct AcceptedThenOpened<D: Disk, C> {
+    pub sources: C,
+    /// How many evaluations came to what, or why it ended early.
+    pub answer: Result<Counts, CheckFault>,
+    pub opened: Result<Host<D>, OpenFault<D>>,
+}
+
+/// Checks a worksheet and accepts answers, by the call that `check --accept` makes, and opens the disk again.
+///
+/// The contract is the theorem of that call, whatever uses of the program there were before: at each moment of it a crash leaves the
+/// worksheet with some of the answers that it put in; and what opens after it has all that it reported. What it had reported when it was
+/// cut off isn't said: its report isn't stamped.
+pub fn accept_then_open<D: Disk, C: Sources, W: Write, P: Progress>(
+    manner: &Manner<'_>,
+    disk: D,
+    sources: C,
+    progress: &mut P,
+    writer: &mut W,
+) -> AcceptedThenOpened<D, C>
+    ensures { InModel (D.view disk) (AcceptsThenOpens (W.contents writer.old)
+        (W.contents writer.new) (D.view disk) result.answer result.opened) }
+{
+    let Checked {
+        disk,
+        sources,
+        answer,
+    } = check_accepting(manner, disk, sources, progress, writer);
+    AcceptedThenOpened {
+        sources,
+        answer,
+        opened: opened_after(manner.alloc, disk),
+    }
+}
