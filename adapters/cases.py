@@ -161,7 +161,7 @@ PYTHON_SECONDS: List[Case] = [("y = 5", ""), ("while True: pass", "..KeyboardInt
 
 PYTHON: List[Case] = [
     ("1 + 1", "2"), ("_ + 1", "3"), ("x = 1; y = 2; x + y", "3"), ("def f(n):\u2028    return 1 / n\u2028f(2)", "0.5"), ("for i in range(3):\u2028    print(i)\u2028i", "0\n1\n2\n2"),
-    ("raise ValueError('no')", "Traceback (most recent call last):\n  File \"<line 6>\", line 1, in <module>\n    raise ValueError('no')\nValueError: no"),
+    ("raise ValueError('no')", "Traceback (most recent call last):\n  File \"<input>\", line 1, in <module>\n    raise ValueError('no')\nValueError: no"),
     ("f(0)", "..ZeroDivisionError"), ("print(", "..SyntaxError"), ("", ""), ("# a remark", ""), ("None", ""), ("'a'", "'a'"), ("input()", "..EOFError"), ("exit()", "..SystemExit"), ("x", "1"),
     ("class F:\u2028    def _repr_latex_(self): return '$x^2$'", ""), ("F()", "{latex:$x^2$}"), ("print('a'); F()", "a\n{latex:$x^2$}"), ("print('a', end=''); 2", "a\n2"),
     ("print('\\x02\\x05')", "\\x02\\x05"), ("'x' * 9000000", "..[1000002 bytes more]"),

@@ -16,6 +16,7 @@ import signal
 import sys
 import traceback
 import types
+import zlib
 from typing import Any, BinaryIO, Callable, Dict, List, NoReturn, Optional, Tuple, TypeVar
 
 import python_names
@@ -23,6 +24,8 @@ import tmhost_figures
 
 LONGEST = 8_000_000  # bytes of a value
 LONGEST_ERROR = 100_000  # bytes of an error
+NAMED = re.compile(r"<input [0-9a-f]{8}>")  # a line, as Python knows it
+INPUT, EARLIER = "<input>", "<earlier input>"  # in an error that a line gives: itself, and one before it
 FORMULA = re.compile(r"\s*(\${1,2})([^$]+)\1\s*")
 
 Result = TypeVar("Result")
@@ -37,7 +40,7 @@ class Lines:
         sys.modules["__main__"] = module
         self.names: Dict[str, Any] = module.__dict__
         self.names["__builtins__"] = builtins
-        self.number = 0
+        self.name = ""  # of the line that runs
         self.is_at_a_line = False
         self.errors: List[Shown] = []
         self.own = os.getpid()
@@ -50,8 +53,7 @@ class Lines:
 
     def value_of(self, text: str) -> Any:
         """Runs the statements, and gives the value of the last one where it is an expression."""
-        self.number += 1
-        name = f"<line {self.number}>"
+        self.name = name = name_of(text)
         linecache.cache[name] = (len(text), None, (text + "\n").splitlines(True), name)
         tree = ast.parse(text, name)
         last = tree.body.pop() if tree.body and isinstance(tree.body[-1], ast.Expr) else None
@@ -81,7 +83,7 @@ class Lines:
                 return result
             except BaseException as error:
                 self.is_at_a_line = False
-                self.tell(text_of(error))
+                self.tell(text_of(error, self.name))
         return None
 
     def tell(self, error: str) -> None:
@@ -107,18 +109,33 @@ def shown_of(value: Any) -> List[Shown]:
     return [("picture", picture)] if picture else [("text", as_bytes(repr(value)))]
 
 
-def without_own_frames(reported: traceback.TracebackException) -> None:
-    """Leaves out the adapter's own frames, of the errors after an error, too."""
+def name_of(text: str) -> str:
+    """The file as which Python knows a line. It depends on the text alone, and not on how many lines were before it, so that a worksheet's answers stay the
+    same where a line is put in; and lines of other texts have other names, so that a traceback shows the right one."""
+    return f"<input {zlib.crc32(text.encode('utf-8', 'backslashreplace')):08x}>"
+
+
+def shown_name(name: str, running: str) -> str:
+    return INPUT if name == running else EARLIER if NAMED.fullmatch(name) else name
+
+
+def clean(reported: traceback.TracebackException, running: str) -> None:
+    """Leaves out the adapter's own frames, of the errors after an error, too, and names lines as their readers know them."""
     reported.stack[:] = [frame for frame in reported.stack if frame.filename not in (__file__, tmhost_figures.__file__)]
-    for after in (reported.__cause__, reported.__context__):
+    for frame in reported.stack:
+        frame.filename = shown_name(frame.filename, running)
+    of_parser = getattr(reported, "filename", None)
+    if isinstance(of_parser, str):
+        reported.filename = shown_name(of_parser, running)
+    for after in (reported.__cause__, reported.__context__, *(getattr(reported, "exceptions", None) or ())):
         if after:
-            without_own_frames(after)
+            clean(after, running)
 
 
-def text_of(error: BaseException) -> str:
-    is_of_parser = isinstance(error, SyntaxError) and (error.filename or "").startswith("<line ")
+def text_of(error: BaseException, running: str) -> str:
+    is_of_parser = isinstance(error, SyntaxError) and bool(NAMED.fullmatch(error.filename or ""))
     reported = traceback.TracebackException(type(error), error, None if is_of_parser else error.__traceback__)
-    without_own_frames(reported)
+    clean(reported, running)
     return "".join(reported.format())
 
 

@@ -1,11 +1,13 @@
 """One server for the worksheets of a folder: the list, what can be done there, and that each request is refused as strictly as those of one worksheet."""
 
+import fcntl
 import json
 import os
 import shutil
 import subprocess
 import sys
 import tempfile
+import types
 import unittest
 from typing import Any, Dict, List, Tuple
 from unittest import mock
@@ -150,6 +152,28 @@ class Requests(FolderCase):
         policy = listed.request("GET", listed.path, {"Cookie": listed.cookie})[1]["content-security-policy"]
         self.assertEqual(policy, one.get()[1]["content-security-policy"])
         self.assertNotIn("unsafe", policy)
+
+
+class Held(unittest.TestCase):
+    def test_a_file_that_took_the_place_of_one_before_it_was_locked(self) -> None:
+        """Its lock is none of the worksheet's, which another program may hold."""
+        with tempfile.TemporaryDirectory() as place:
+            path, other = os.path.join(place, "a"), os.path.join(place, "b")
+            for name in (path, path + ".alt", other):
+                open(name, "wb").close()
+            with folder.held(path):
+                pass
+
+            def flock(file: int, how: int) -> None:
+                if os.path.exists(other):
+                    os.replace(other, path)
+                fcntl.flock(file, how)
+
+            with mock.patch.object(folder, "fcntl", types.SimpleNamespace(flock=flock, LOCK_EX=fcntl.LOCK_EX, LOCK_NB=fcntl.LOCK_NB)):
+                with self.assertRaises(folder.NotDone), folder.held(path):
+                    self.fail("it is held")
+            with folder.held(path):
+                pass
 
 
 class Renames(unittest.TestCase):

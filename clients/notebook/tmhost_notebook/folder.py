@@ -81,13 +81,25 @@ def sync_folder(path: str) -> None:
         os.close(folder)
 
 
+def is_still_at(path: str, file: int) -> bool:
+    """Whether an open file is the one that has this name, and has no other: else another took its place before it was locked."""
+    try:
+        there, here = os.stat(path), os.fstat(file)
+    except FileNotFoundError:
+        return False
+    return os.path.samestat(there, here) and here.st_nlink == 1
+
+
 @contextlib.contextmanager
 def held(path: str) -> Iterator[None]:
     """Holds the locks of a worksheet, as a program that has it open. Raises NotDone where one has."""
-    files = [os.open(path + end, os.O_RDONLY | os.O_CLOEXEC) for end in FILES if os.path.exists(path + end)]
+    names = [path + end for end in FILES if os.path.exists(path + end)]
+    files = [os.open(name, os.O_RDONLY | os.O_CLOEXEC) for name in names]
     try:
         for file in files:
             fcntl.flock(file, fcntl.LOCK_EX | fcntl.LOCK_NB)
+        if not all(map(is_still_at, names, files)):
+            raise BlockingIOError
         yield
     except BlockingIOError:
         raise NotDone(f"{os.path.basename(path)} is in use: close it first") from None

@@ -10,7 +10,7 @@ import sys
 import time
 from typing import Dict, List
 
-from .support import HERE, ROOT, Case, command_words, environment
+from .support import HERE, ROOT, Case, command_words, environment, fences
 from .trees import CMARK, PANDOC, body_of, cmark_tree, codes, pandoc_tree, without_answers
 
 ADAPTERS = os.path.join(ROOT, "adapters")
@@ -30,6 +30,17 @@ ADD = {"python3": "x = x + {}\n\nx", "gp": "x = x + {}", "maxima": "x : x + {}",
 
 def interpreters() -> List[str]:
     return [name for name in WORDS if shutil.which(name)][:3]
+
+
+class Tracebacks(Case):
+    def test_a_line_before_changes_none(self) -> None:
+        """An error of Python is the same where a field is put in front of its own."""
+        error = ("py", "def f(n):\n    return 1 / n\n\nf(0)")
+        front = self.front(py=["tmhost-python"])
+        one = self.weave(front + fences([("py", "x = 1"), error]))
+        more = self.weave(one.replace("x = 1\n", "x = 1\ny = 2\nz = 3\n"))
+        self.assertIn('  File "<input>", line 1, in <module>\n    f(0)\n  File "<earlier input>", line 2, in f\n    return 1 / n\n', one)
+        self.assertEqual(more, one.replace("x = 1\n", "x = 1\ny = 2\nz = 3\n"))
 
 
 class Course(Case):

@@ -1,5 +1,6 @@
 """What standard error says: why an interpreter ended and where, what was evaluated, and what keeps a weave from its end."""
 import os
+import shutil
 import signal
 import subprocess
 import sys
@@ -158,6 +159,18 @@ class Troubles(Messages):
             weave.send_signal(signal.SIGINT)
             self.assertEqual((weave.communicate(timeout=60), weave.returncode), ((b"", b""), 130))
 
+    def test_what_is_no_utf8_and_has_no_fences(self) -> None:
+        """It is refused, in UTF-16 also with fences, which aren't seen there."""
+        text = self.front("a") + fences([("a", "x")])
+        for data, line in ((b"\xff\xfe\n", 1), (b"a\nb\r\ncaf\xe9\n", 3), (text.encode("utf-16"), 1), (b"\x89PNG\r\n\x1a\n\0", 1)):
+            with open(self.text, "wb") as file:
+                file.write(data)
+            for word in ("--seconds=9", "--check", "--test"):
+                done = self.run_weave(word, self.text)
+                said = f"{self.text}: line {line} has bytes that are no UTF-8, and no fence of a session is found: save the text as UTF-8\n"
+                self.assertEqual((done.status, done.output, done.errors), (1, "", said))
+        self.assertEqual(os.listdir(self.folder), ["text.md"])
+
     def test_a_full_disk(self) -> None:
         """A limit of the length of files is a fault of the disk, too; whether there is no space says the file system."""
         self.write("x" * 15_000, self.place("long"))
@@ -173,6 +186,27 @@ class Troubles(Messages):
         self.assertRegex(str(caught.exception), r"\Ano space left for text\.sheet; (1 of 3 answers is|2 of 3 answers are) kept: make room and weave again\Z")
         self.assertEqual(self.read(), text)
         self.assertEqual(self.weave(text).count("x" * 15_000), 3)
+
+    def test_what_a_full_disk_leaves(self) -> None:
+        """Nothing that weave has made and doesn't need: of a worksheet that can't be made, of a text, a picture and a page that don't fit."""
+        self.write(f"#!/bin/sh\ntrap '' XFSZ\nulimit -f 0\nexec {PROGRAM} \"$@\"\n", self.place("limited"))
+        os.chmod(self.place("limited"), 0o755)
+        long = '<svg xmlns="http://www.w3.org/2000/svg" width="9" height="9">' + '<rect width="9" height="9"/>' * 100 + "</svg>"
+        text = self.front("a") + fences([("a", "x")])
+        self.write(text)
+        self.assertEqual(self.run_weave(TMHOST=self.place("limited")).status, 1)
+        self.assertEqual((sorted(os.listdir(self.folder)), self.read()), (["limited", "text.md"], text))
+        for code, words in (("say " + "z" * 3_000, ["--seconds=9"]), ("picture |image/svg+xml|" + long, ["--seconds=9"]), ("x", ["--html", self.place("pages/")])):
+            text = self.front("a") + fences([("a", code)])
+            self.write(text)
+            self.assertEqual(self.run_weave("--output", "-", self.text).status, 0)
+            shutil.rmtree(self.place("text.pictures"), ignore_errors=True)
+            limited = ["sh", "-c", 'ulimit -f 2; exec "$@"', "sh", *command_words(*words, self.text)]
+            done = subprocess.run(limited, capture_output=True, text=True, env=environment())
+            self.assertEqual(done.returncode, 1, done.stderr)
+            self.assertRegex(done.stderr, r"\A(.*: a: .*\n)?.*: File too large(: .*)?\n\Z")
+            self.assertEqual(sorted(os.listdir(self.folder)), ["a.log", "limited", "text.md", "text.sheet", "text.sheet.alt"])
+            self.assertEqual(self.read() == text, code != "x")
 
     def test_how_full_a_disk_is(self) -> None:
         for blocks, is_full in ((0, True), (10, True), (10_000, False)):

@@ -252,9 +252,6 @@ class Weaving(Case):
                 self.assertEqual((done.status, done.output), (status, ""))
             self.assertIn("no fence is of a session, so nothing is evaluated", done.errors)
             self.assertEqual(self.run_weave("--output", "-", self.text).output, text)
-        with open(self.text, "wb") as file:
-            file.write(b"\xff\xfe\n")
-        self.assertEqual(self.run_weave().status, 0)
         self.assertEqual(os.listdir(self.folder), ["text.md"])
 
     def test_a_text_without_code_of_a_session_is_reported(self) -> None:

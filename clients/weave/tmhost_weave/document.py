@@ -8,7 +8,7 @@ from tmhost.near import near
 from tmhost_fences.blocks import FENCE, LINE, Block, block_of, cut, tokens_of
 from tmhost_fences.fields import Group, groups, language_in, whole
 from tmhost_fences.front import SESSIONS, Sessions, front_of, sessions_meant, why_misspelt
-from tmhost_fences.info import ATTRIBUTES, LITERAL, OBEYED, is_hidden, is_without_text, wants_errors
+from tmhost_fences.info import ATTRIBUTES, LITERAL, NO, OBEYED, is_hidden, is_without_text, wants_errors
 from tmhost_fences.meant import session_meant
 from tmhost_fences.troubles import Trouble
 
@@ -17,6 +17,7 @@ from .answers import Finder, Shown, is_of_an_answer, lines_of
 BARE_WORD = re.compile(r"[A-Za-z][A-Za-z-]*")
 TAB = 4  # columns
 HIDE, FOLD, PURE, WHOLE = "hide", "fold", "pure", "whole"
+ECHO = "echo"
 FLAGS = (HIDE, FOLD, PURE, WHOLE)
 WORDS = (*FLAGS, LITERAL)
 TEXTLESS = "textless"  # no text of an answer is shown, as by `results='hide'`
@@ -73,7 +74,7 @@ def named_in(block: Block, sessions: Sessions) -> Optional[Tuple[str, FrozenSet[
 
 def option_meant(name: str) -> Optional[str]:
     """The option that is obeyed of which another one is a misspelling."""
-    return None if name in OBEYED else near(name, [one for one in OBEYED if one != "echo"])
+    return None if name in OBEYED else near(name, [one for one in OBEYED if one != ECHO])
 
 
 def misspelt(block: Block) -> Iterator[str]:
@@ -125,6 +126,7 @@ class Document:
         self.doubts: List[Tuple[int, str]] = []  # what isn't done that is most likely meant: the line, from 1, of a fence, and what is said of it
         self.has_texts = False  # whether a fence of a session is text since it says so
         self.ignored: Dict[str, int] = {}  # options of fences of sessions that are, each with the line, from 1, of the first one
+        self.of_pages: Dict[str, int] = {}  # the same of options that only pages obey
         self._read(contents[front.lines :], front.lines)
 
     def _read(self, body: List[str], first: int) -> None:
@@ -141,7 +143,7 @@ class Document:
                 finder = Finder(tokens, at, token.map[1], body, first)
                 self.fences.append(self._fence(block, named, finder, first))
                 self.doubts += [(block.begin + 1, why) for why in misspelt(block)]
-                self.ignored = {**{name: block.begin + 1 for name in block.ignored if not option_meant(name)}, **self.ignored}
+                self._note_ignored(block)
                 at = finder.at
             elif is_of_an_answer(block.info_text):
                 self.strays.append(block.begin + 1)
@@ -150,6 +152,12 @@ class Document:
                 self.has_texts |= block.info.name in self.sessions
                 why = why_unevaluated(block, self.sessions)
                 self.doubts += [(block.begin + 1, why)] if why else []
+
+    def _note_ignored(self, block: Block) -> None:
+        for name in block.ignored:
+            is_of_page = name == ECHO and block.options[name].lower() in NO
+            if not option_meant(name):
+                (self.of_pages if is_of_page else self.ignored).setdefault(name, block.begin + 1)
 
     @property
     def is_doubtful(self) -> bool:

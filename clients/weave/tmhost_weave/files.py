@@ -5,7 +5,7 @@ import os
 import shutil
 from typing import Iterator
 
-from .sheets import sync
+from .sheets import remove, sync
 from tmhost_fences.troubles import Trouble
 
 LONGEST = 67_108_864  # bytes, as of a script of tmhost
@@ -37,13 +37,31 @@ def new_name(path: str) -> str:
 
 
 def put(path: str, data: bytes) -> None:
-    """The file has these bytes or the old ones, whenever the machine stops."""
+    """The file has these bytes or the old ones, whenever the machine stops. Where they don't fit, nothing is left of them."""
     new = new_name(path)
-    with open(new, "wb") as file:
-        file.write(data)
-        file.flush()
-        os.fsync(file.fileno())
-    if os.path.exists(path):
-        shutil.copymode(path, new)
-    os.replace(new, path)
+    try:
+        with open(new, "wb") as file:
+            file.write(data)
+            file.flush()
+            os.fsync(file.fileno())
+        if os.path.exists(path):
+            shutil.copymode(path, new)
+        os.replace(new, path)
+    except BaseException:
+        remove(new)
+        raise
     sync(os.path.dirname(path))
+
+
+def put_in_folder(path: str, data: bytes) -> None:
+    """The same, in a folder that is made where it isn't there."""
+    folder = os.path.dirname(path)
+    is_made = not os.path.isdir(folder)
+    os.makedirs(folder, exist_ok=True)
+    try:
+        put(path, data)
+    except BaseException:
+        if is_made:
+            with contextlib.suppress(OSError):
+                os.rmdir(folder)
+        raise

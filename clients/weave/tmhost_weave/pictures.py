@@ -6,7 +6,7 @@ import re
 import urllib.parse
 from typing import Dict, List
 
-from .files import put
+from .files import put_in_folder
 
 ADDRESS = re.compile(r"data:image/(\w+)(?:\+xml)?;base64,")
 NAME = re.compile(r"[0-9a-f]{20}\.(?:svg|png|jpeg)(?:\.tmhost-weave)?")
@@ -34,8 +34,7 @@ class Pictures:
     def write(self) -> None:
         """Writes those that aren't there, each as a whole."""
         for name in self.missing():
-            os.makedirs(self.folder, exist_ok=True)
-            put(os.path.join(self.folder, name), self.wanted[name])
+            put_in_folder(os.path.join(self.folder, name), self.wanted[name])
 
     def remove_others(self) -> None:
         """Removes those of earlier weaves, which the text shows no more, and the folder where it is empty."""

@@ -14,10 +14,15 @@ from tmhost.version import ShowVersion
 from .cutting import LONGEST
 from .files import locked
 from tmhost_fences.troubles import Trouble
+from .places import fix_program, within
+from .targets import why_shared, why_unclear
 from .weaving import Weave
 
 ABOUT = "Evaluates the code in a CommonMark text, and puts each answer after its fence."
 NOTES = """
+With --html a page of the woven text is written, too, which stands alone: prose, code, answers, pictures, formulas, title and authors of the front matter.
+Nothing is evaluated for it a second time. It is written only where the status would be 0. It has no code of fences with echo=FALSE or include=FALSE.
+Several texts are woven in turn: the status is that of the worst, and the last line names those that failed.
 The front matter of TEXT names the sessions, as `sessions: {py: [tmhost-python]}`. After the session of a fence may
 stand {whole}, {pure}, {hide} and {fold}, or {literal} where its code is a text; `fences: whole` in the front matter makes each fence one field.
 The answers are kept in the worksheet beside TEXT, whose name ends in .sheet. The program is the one that TMHOST names, tmhost on PATH, or the one
@@ -48,11 +53,12 @@ def bytes_shown(word: str) -> int:
 
 def arguments(words: List[str]) -> argparse.Namespace:
     parser = argparse.ArgumentParser("tmhost-weave", None, ABOUT, NOTES, formatter_class=argparse.RawDescriptionHelpFormatter)
-    parser.add_argument("text", metavar="TEXT")
+    parser.add_argument("texts", metavar="TEXT", nargs="+")
     what = parser.add_mutually_exclusive_group()
     what.add_argument("--check", action="store_true", help="evaluate nothing, write nothing, and say what would change")
     what.add_argument("--test", action="store_true", help="evaluate all again, write nothing, and show which answers of TEXT are others now, as for a CI")
     parser.add_argument("--output", metavar="FILE", help="where the woven text goes, in place of TEXT (-: standard output)")
+    parser.add_argument("--html", metavar="FILE", help="where a page of TEXT goes, which stands alone: a name that ends in .html, or a folder")
     parser.add_argument("--seconds", type=seconds, metavar="N", help="how long a field may take (no limit)")
     parser.add_argument(
         "--longest", type=bytes_shown, default=LONGEST, metavar="BYTES", help=f"how much of an answer's text is shown; the worksheet has it whole ({LONGEST:,})"
@@ -62,25 +68,48 @@ def arguments(words: List[str]) -> argparse.Namespace:
     given = parser.parse_args(words)
     if given.test and given.output is not None:
         parser.error("--test writes nothing, so there is no --output for it")
+    if given.html is not None and (given.check or given.test):
+        parser.error("--check and --test write nothing, so there is no --html for them")
+    if given.output is not None and len(given.texts) > 1:
+        parser.error("--output is the place of one text, and several are given")
+    why = (None if given.html is None else why_unclear(given.html, given.texts)) or (None if given.test else why_shared(given.texts))
+    if why:
+        parser.error(why)
     return given
 
 
-def run(given: argparse.Namespace) -> bool:
-    show_building()
+def run(given: argparse.Namespace, text: str) -> bool:
     if given.test:
         with tempfile.TemporaryDirectory(prefix="tmhost-weave-") as folder:
-            return Weave(given.text, None, folder, given.no_errors, given.longest).test(given.seconds)
-    with locked(os.path.realpath(given.text)):
-        weave = Weave(given.text, given.output, None, given.no_errors, given.longest)
-        return weave.check() if given.check else weave.weave(given.seconds)
+            weave = Weave(text, None, folder, given.no_errors, given.longest)
+            with within(weave.start):
+                return weave.test(given.seconds)
+    with locked(os.path.realpath(text)):
+        weave = Weave(text, given.output, None, given.no_errors, given.longest, given.html)
+        with within(weave.start):
+            return weave.check() if given.check else weave.weave(given.seconds)
+
+
+def has_succeeded(given: argparse.Namespace, text: str) -> bool:
+    try:
+        return run(given, text)
+    except (Trouble, TmhostError, OSError) as trouble:
+        print(f"{text}: {plain(trouble)}", file=sys.stderr)
+        return False
+
+
+def summary(texts: List[str], failed: List[str]) -> str:
+    return f"{len(texts)} texts, {len(failed) or 'none'} failed" + (f": {', '.join(failed)}" if failed else "")
 
 
 def main(words: List[str]) -> int:
     given = arguments(words)
     try:
-        return 0 if run(given) else 1
-    except (Trouble, TmhostError, OSError) as trouble:
-        print(f"{given.text}: {plain(trouble)}", file=sys.stderr)
+        fix_program()
+        show_building()
+        failed = [text for text in given.texts if not has_succeeded(given, text)]
     except KeyboardInterrupt:
         return INTERRUPTED
-    return 1
+    if len(given.texts) > 1:
+        print(f"tmhost-weave: {summary(given.texts, failed)}", file=sys.stderr)
+    return 1 if failed else 0

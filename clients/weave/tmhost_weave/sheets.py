@@ -28,21 +28,35 @@ def sheet_path(text: str) -> str:
 def make(path: str) -> None:
     """Makes a worksheet beside its place, and puts it there when it is whole: what a kill leaves of the making is made again."""
     new = path + ".new"
-    for name in (new, new + SECOND):
-        with contextlib.suppress(FileNotFoundError):
-            os.unlink(name)
+    remove(new, new + SECOND)
     if os.path.lexists(path + SECOND) and os.path.getsize(path + SECOND):
         raise Trouble(f"{path + SECOND} is there without {path}, to which it belongs; put that back, or remove {path + SECOND} and {AGAIN}: its answers are lost then")
+    try:
+        make_at(new, path)
+        # The second file of a new worksheet is empty, so one that is there alone may go.
+        os.replace(new + SECOND, path + SECOND)
+        os.rename(new, path)
+    except BaseException:
+        remove(new, new + SECOND)
+        raise
+    sync(os.path.dirname(path))
+
+
+def remove(*paths: str) -> None:
+    """Removes the files that are there."""
+    for path in paths:
+        with contextlib.suppress(FileNotFoundError):
+            os.unlink(path)
+
+
+def make_at(new: str, path: str) -> None:
+    """Makes the worksheet that is to be at a path in another place."""
     made = subprocess.run([find_program(), "create", os.path.join(".", new)], stdin=subprocess.DEVNULL, capture_output=True)
     if made.returncode != 0 and has_no_space(path):
         raise Trouble(f"no space left for {os.path.basename(path)}: make room and weave again")
     if made.returncode != 0:
         said = made.stderr.decode("utf-8", "backslashreplace").strip()
         raise Trouble(f"{path} can't be made: {reason_of_end(said, made.returncode, path)}")
-    # The second file of a new worksheet is empty, so one that is there alone may go.
-    os.replace(new + SECOND, path + SECOND)
-    os.rename(new, path)
-    sync(os.path.dirname(path))
 
 
 def sync(folder: str) -> None:

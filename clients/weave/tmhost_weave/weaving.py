@@ -1,5 +1,4 @@
 """A text woven or checked, over the worksheet beside it."""
-import contextlib
 import difflib
 import itertools
 import os
@@ -14,17 +13,20 @@ from tmhost.starting import doubt, never_answers, why_it_ends
 from .answers import ANSWER, ERROR, FORMULA, NO_ANSWER, PICTURE, Piece, Shown
 from .cutting import LONGEST, cut
 from .document import ERRORS_FAIL, ERRORS_WANTED, FOLD, HIDE, TEXTLESS, Document
-from .evaluation import AT_CODE, AT_START, UNTRIED, Evaluator
-from .files import new_name, put, read
+from .evaluation import AT_START, UNTRIED, Evaluator
+from .files import new_name, put, put_in_folder, read
 from .formulas import parts_of
+from .matter import Matter, matter_of
+from .page import Page
 from .pictures import Pictures
 from .plan import Plan, Wanted
-from .sheets import AGAIN, fit, has_no_space, make, opened, sheet_path, shorten
+from .sheets import AGAIN, fit, has_no_space, make, opened, remove, sheet_path, shorten
+from .targets import page_of, place_of
+from .telling import later_ones, reason_of, why_nothing
+from tmhost_fences.blocks import cut as cut_line
 from tmhost_fences.targets import refuse_target
 from tmhost_fences.troubles import Trouble
 
-MOST_REPORTED = 5  # kinds of fences, in a message
-LONGEST_INFO = 40  # characters of what stands at one
 MOST_LINES = 20  # of errors, in a message
 CLEAR = "\r\x1b[K"  # takes a line of a terminal away
 LONG_RUN = re.compile("`{255,}")  # cmark counts the backquotes of a fence up to 255, so a line of more would close any
@@ -54,42 +56,28 @@ def piece_of(text: str, kind: str) -> Piece:
     return Piece(kind, text[:-1] if text.endswith("\n") else text)
 
 
+def refuse_other_bytes(data: bytes) -> None:
+    """Refuses what isn't a text in UTF-8: one in UTF-16, of which no fence is seen, or no text at all."""
+    try:
+        data.decode("utf-8")
+    except UnicodeDecodeError as error:
+        line = data.count(b"\n", 0, error.start) + 1
+        raise Trouble(f"line {line} has bytes that are no UTF-8, and no fence of a session is found: save the text as UTF-8") from None
+
+
 def first_other_line(old: bytes, new: bytes) -> int:
     pairs = zip(old.split(b"\n"), new.split(b"\n"))
     return 1 + sum(1 for _ in itertools.takewhile(lambda pair: pair[0] == pair[1], pairs))
 
 
-def why_nothing(document: Document) -> str:
-    """What is said of a text of which no fence is evaluated: an author has most likely named a session otherwise than its fences."""
-    sessions = ", ".join(document.sessions) or "none, as `sessions: {py: [tmhost-python]}`"
-    reported = [f"{ascii(info[:LONGEST_INFO])[1:-1] or 'without a word'} ({count})" for info, count in document.others.most_common(MOST_REPORTED + 1)]
-    fences = ", ".join([*reported[:MOST_REPORTED], *([".."] if len(reported) > MOST_REPORTED else [])]) or "none"
-    what = "each fence of a session says that it is text" if document.has_texts else "no fence is of a session"
-    return f"{what}, so nothing is evaluated. Sessions in the front matter: {sessions}. Fences: {fences}"
-
-
-def reason_of(wanted: Wanted) -> Optional[str]:
-    """Why a field has no answer, with what isn't said in the text: where an interpreter ended."""
-    if wanted.end == AT_CODE and wanted.ender is wanted:
-        return "no answer: this code ended its interpreter"
-    if wanted.end == AT_CODE and wanted.ender:
-        return f"not evaluated, since at the replay of line {wanted.ender.line} that code ended the interpreter"
-    return "no answer: its interpreter ended at its start" if wanted.end == AT_START and wanted.ender is wanted else wanted.failure
-
-
-def later_ones(wanted: List[Wanted]) -> str:
-    """What is said of the fields of a session that weren't tried."""
-    first, last, name = wanted[0].line, wanted[-1].line, wanted[0].session_in_text
-    if len(wanted) == 1:
-        return f"1 later field of {name} isn't evaluated (line {first})"
-    return f"{len(wanted)} later fields of {name} aren't evaluated (lines {first} to {last})"
-
-
 class Weave:
     """`output` is where the woven text goes: None for the text itself, "-" for standard output. `folder` is where the worksheet lies, if not beside the text.
-    `errors_fail` is whether an error is a failure where the options of its fence don't say; `longest` is how many bytes of an answer's text are shown."""
+    `errors_fail` is whether an error is a failure where the options of its fence don't say; `longest` is how many bytes of an answer's text are shown. `page` is where a
+    page of it goes, a file or a folder, if anywhere."""
 
-    def __init__(self, name: str, output: Optional[str], folder: Optional[str] = None, errors_fail: bool = False, longest: int = LONGEST) -> None:
+    def __init__(
+        self, name: str, output: Optional[str], folder: Optional[str] = None, errors_fail: bool = False, longest: int = LONGEST, page: Optional[str] = None
+    ) -> None:
         self.name, self.path = name, os.path.realpath(name)
         self.errors_fail, self.longest = errors_fail, longest
         self.target = None if output == "-" else self.path if output is None else os.path.realpath(output)
@@ -100,8 +88,15 @@ class Weave:
             raise Trouble("the text has the name of its worksheet")
         if self.target and self.target != self.path:
             refuse_target("--output", self.target, (self.sheet_path, self.sheet_path + ".alt"))
+        self.page = page_of(page, name) if page else None
+        kept = (self.path, self.target or "", self.sheet_path, self.sheet_path + ".alt")
+        self.page_place = place_of(page, self.page, kept) if page and self.page else ""
         self.data = read(self.path)
         self.document = Document(text_of(self.data))
+        if not self.document.fences:
+            refuse_other_bytes(self.data)
+        self.matter = matter_of([cut_line(line)[0] for line in self.document.lines]) if self.document.sessions or page else Matter()
+        self.start = self.matter.start(self.path)  # the folder in which interpreters start
         self.fields: Dict[int, Field] = {}
         self.left_out: Dict[int, int] = {}  # how many bytes of an answer, by the number of its field
         self.plan: Optional[Plan] = None
@@ -114,8 +109,11 @@ class Weave:
             self.say(f"line {line}: an answer that is after no fence of a session stays as text")
         for line, why in self.document.doubts:
             self.say(f"line {line}: {why}")
-        if self.document.ignored:
-            self.say("options that are ignored: " + ", ".join(f"{name} (line {line})" for name, line in sorted(self.document.ignored.items())))
+        ignored = dict(self.document.ignored)
+        for name, line in self.document.of_pages.items() if not self.page else ():
+            ignored[name] = min(line, ignored.get(name, line))
+        if ignored:
+            self.say("options that are ignored: " + ", ".join(f"{name} (line {line})" for name, line in sorted(ignored.items())))
         if not self.document.fences:
             self.say(why_nothing(self.document))
 
@@ -234,8 +232,7 @@ class Weave:
             sys.stdout.buffer.write(woven)
             sys.stdout.buffer.flush()
             return
-        with contextlib.suppress(FileNotFoundError):
-            os.unlink(new_name(self.target))
+        remove(new_name(self.target))
         if self.target == self.path and read(self.path) != self.data:
             raise Trouble("the text was changed meanwhile, and stays as it is; the answers are kept: weave it again")
         if not os.path.exists(self.target) or read(self.target) != woven:
@@ -251,7 +248,22 @@ class Weave:
         self.write(bytes_of(self.document.checked(shown)))
         if self.target == self.path:
             plan.move(self.document.moved(shown))
-        return self.is_answered(plan)
+        is_answered = self.is_answered(plan)
+        return self.write_page(shown, is_answered) and is_answered
+
+    def write_page(self, shown: Sequence[Shown], is_answered: bool) -> bool:
+        """Whether the page that is wanted is written, and whole. Of a text that isn't answered as it is meant there is none."""
+        if not self.page or not is_answered:
+            if self.page:
+                self.say(f"{self.page} isn't written, since the text isn't answered as it is meant")
+            return not self.page
+        page = Page(self.document, shown, self.pictures.wanted, self.matter, os.path.dirname(self.path))
+        html = page.html(os.path.splitext(os.path.basename(self.path))[0])
+        put_in_folder(self.page_place, html)
+        self.say(f"{self.page} is written")
+        for text in page.reported:
+            self.say(text)
+        return page.is_whole
 
     def is_answered(self, plan: Plan) -> bool:
         """The same; says what isn't, and where a figure may be shown too early."""
