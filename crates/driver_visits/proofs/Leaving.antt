@@ -9,50 +9,57 @@ use Rattle.session_engine.specs.Host.{HostView}
 use Rattle.host_laws.specs.Turns.{HostTurn, HostsInTurn}
 use Rattle.child_edge.specs.Moments.{outcomes_of}
 use Rattle.offline_programs.specs.declared.fault.RunFault.{RunFault}
-use Rattle.theorem.specs.Story.{CrashedSince, Opens}
-use Rattle.theorem.specs.Programs.{Invocations, OpensAfterPrograms, cut_off, cut_since, ended, looked, no_more}
+use Rattle.recovery.specs.Laws.{OneSheet}
+use Rattle.worksheet.specs.Ops.{sheet_of}
+use Rattle.disk_model.specs.declared.crash.Choice.{Choice}
+use Rattle.theorem.specs.Story.{CrashedSince}
+use Rattle.theorem.specs.Acts.{Act, OpensAfterActs, OpensSo, Uses, filing, has_filed, no_use, turns_of}
+use Rattle.theorem.proofs.Filing.{all_did}
+use Rattle.theorem.specs.Programs.{Invocations, cut_off, cut_since, ended, no_more}
 use Rattle.theorem.proofs.Reported.{opening_leaves}
-use Rattle.theorem.proofs.Visits.{invocations_left}
 use Rattle.driver.specs.Reports.{Report}
 use Rattle.driver.specs.Items.{RunStep, ask, printed}
 use Rattle.driver.specs.Place.{Rules}
 use Rattle.driver.specs.Laws.{trace}
 use Rattle.driver.specs.Runs.{left_at_end}
 use Rattle.driver.specs.Over.{Over, ProgramParts, RanOver, first_place, not_opened, program_parts, ran_over}
-use Rattle.driver_visits.specs.Runs.{CrashesLeave, Earlier, LeavesPrefix, LeavesPrinted, LeftWith, OpeningLeaves, OpensAfterCrash, OpensCrashed, RunsThenCrashes, RunsThenOpens, not_begun, ran, unknown_reports, unopened, was_cut}
+use Rattle.driver_visits.specs.Earlier.{CrashesLeave, EarlierUses, LeftWith}
+use Rattle.driver_visits.specs.Runs.{LeavesPrefix, LeavesPrinted, OpeningLeaves, OpensAfterCrash, OpensCrashed, RunsThenCrashes, RunsThenOpens, not_begun, ran, reported_by, run_act, unknown_reports, unopened, was_cut}
 use Rattle.driver_visits.specs.Visits.{turn_of}
 use Rattle.driver_visits.proofs.Parts.{Parted, parted}
 use Rattle.driver_visits.proofs.Visiting.{durable_at, visit_by}
 
--- invocations after invocations
-pub followed : (room : ℕ) (before mid after : Image) (turns more : List HostTurn) → Invocations room before turns mid → Invocations room mid more after
-    → Invocations room before (turns ++ more) after
-followed room before mid after turns more no_more then = then
-followed room before mid after turns more (looked {mid = between} disk back restarted looks crashed rest) then =
-    looked {mid = between} disk back restarted looks crashed (followed room between mid after turns more rest then)
-followed room before mid after turns more (cut_off {mid = between} {turn = turn} {turns = others} disk back same v crashed rest) then =
-    cut_off {mid = between} {turn = turn} {turns = others ++ more} disk back same v crashed (followed room between mid after others more rest then)
-followed room before mid after turns more (cut_since {mid = between} {turn = turn} {turns = others} disk back same v reported at kept crashed rest) then =
-    cut_since {mid = between} {turn = turn} {turns = others ++ more} disk back same v reported at kept crashed (followed room between mid after others more rest then)
-followed room before mid after turns more (ended {mid = between} {turn = turn} {turns = others} disk back same v crashed rest) then =
-    ended {mid = between} {turn = turn} {turns = others ++ more} disk back same v crashed (followed room between mid after others more rest then)
+-- uses after uses
+pub used_on : (room : ℕ) (before mid after : Image) (acts more : List Act) → Uses room before acts mid → Uses room mid more after → Uses room before (acts ++ more) after
+used_on room before mid after acts more no_use then = then
+used_on room before mid after acts more (turns_of {mid = between} {turns = turns} {acts = others} invocations rest) then =
+    turns_of {mid = between} {turns = turns} {acts = others ++ more} invocations (used_on room between mid after others more rest then)
+used_on room before mid after acts more (filing {mid = between} {put = put} {acts = others} disk back ops f crash rest) then =
+    filing {mid = between} {put = put} {acts = others ++ more} disk back ops f crash (used_on room between mid after others more rest then)
+used_on room before mid after acts more (has_filed {mid = between} {put = put} {reported = reported} {acts = others} disk back ops f holds crash rest) then =
+    has_filed {mid = between} {put = put} {reported = reported} {acts = others ++ more} disk back ops f holds crash (used_on room between mid after others more rest then)
 
-module _ {A C K : Type 0} (hosts : HostsInTurn) (R : Rules A C K) (first last : ProgramParts A C K) (answer : Result (Unit {0}) RunFault)
-    (it : RanOver R first last answer) (model : IsTrue first.disk.keeps_model) (e : Earlier first.disk) where
-  left_with : (turn : HostTurn) (after : Image) → Invocations first.disk.room (bytes_on first.disk) (turn ∷ []) after → LeftWith e turn after
-  left_with turn after last_one =
-      let all = followed first.disk.room e.image (bytes_on first.disk) after e.turns (turn ∷ []) e.came last_one in
-      record { goes_on = all; left = invocations_left hosts first.disk.room e.ops e.image after (e.turns ++ turn ∷ []) e.allowed e.found all }
+-- with an act that came last
+pub left_with : (hosts : HostsInTurn) (one : OneSheet) (disk : DiskView) (e : EarlierUses disk) (act : Act) (after : Image) → Uses disk.room (bytes_on disk) (act ∷ []) after → LeftWith disk e act after
+left_with hosts one disk e act after last =
+    let all = used_on disk.room e.image (bytes_on disk) after e.acts (act ∷ []) e.came last in
+    let found = all_did hosts one disk.room e.image (sheet_of e.ops) (e.acts ++ act ∷ []) after e.found all in
+    record { goes_on = all; sheet = found.last; did = found.did; image = found.image }
+
+module _ {A C K : Type 0} (hosts : HostsInTurn) (one : OneSheet) (R : Rules A C K) (first last : ProgramParts A C K) (answer : Result (Unit {0}) RunFault)
+    (it : RanOver R first last answer) (model : IsTrue first.disk.keeps_model) (e : EarlierUses first.disk) where
+  ran_last : (turn : HostTurn) (after : Image) → Invocations first.disk.room (bytes_on first.disk) (turn ∷ []) after → LeftWith first.disk e (run_act turn) after
+  ran_last turn after last_one = left_with hosts one first.disk e (run_act turn) after (turns_of last_one no_use)
 
   abbrev whole : Parted (world_at_opening it.opened.ops first.disk.room it.opened.end) it.opened.now (trace it.steps) last.disk
   whole = parted R (first_place first it.opened) (record { asked = it.asked; agenda = last.agenda; world = it.world; disk = last.disk; sources = it.sources; sink = last.sink }) (ask ∷ []) (left_at_end answer) it.steps it.ran
 
-  pub within : CrashesLeave e (unknown_reports (turn_of it.steps whole.events)) it.opened.now.history last.disk.history
-  within after crashed = left_with (unknown_reports (turn_of it.steps whole.events)) after
+  pub within : CrashesLeave first.disk e (unknown_reports (turn_of it.steps whole.events)) it.opened.now.history last.disk.history
+  within after crashed = ran_last (record { events = (turn_of it.steps whole.events).events; reported = [] }) after
       (cut_off {turn = turn_of it.steps whole.events} first.disk last.disk refl (visit_by R first last answer it model whole) crashed no_more)
 
-  pub has_ended : CrashesLeave e (turn_of it.steps whole.events) last.disk.history last.disk.history
-  has_ended after crashed = left_with (turn_of it.steps whole.events) after (ended first.disk last.disk refl (visit_by R first last answer it model whole) crashed no_more)
+  pub has_ended : CrashesLeave first.disk e (run_act (turn_of it.steps whole.events)) last.disk.history last.disk.history
+  has_ended after crashed = ran_last (turn_of it.steps whole.events) after (ended first.disk last.disk refl (visit_by R first last answer it model whole) crashed no_more)
 
   pub printed_is : (done rest : List RunStep) (r : Report) → it.steps ≡ done ++ printed r ∷ rest → LeavesPrinted R first last answer it e done r
   printed_is done rest r is =
@@ -63,7 +70,7 @@ module _ {A C K : Type 0} (hosts : HostsInTurn) (R : Rules A C K) (first last : 
         sink = d.sink;
         tries = d.tries;
         unreported = d.unreported;
-        since = λ after crashed. left_with (record { events = (turn_of it.steps d.unreported).events; reported = outcomes_of (trace done) }) after
+        since = λ after crashed. ran_last (record { events = (turn_of it.steps d.unreported).events; reported = outcomes_of (trace done) }) after
             (cut_since {turn = turn_of it.steps d.unreported} first.disk last.disk refl d.visit (outcomes_of (trace done)) d.there.disk.history d.since crashed no_more);
       }
 
@@ -74,66 +81,66 @@ module _ {A C K : Type 0} (hosts : HostsInTurn) (R : Rules A C K) (first last : 
 abbrev pub crashed_now : (h : History) (i : Image) → IsImage h.now i → CrashedSince h h i
 crashed_now h i image = record { moment = length h.past; state = h.now; at = record { later = []; earlier = h.past; states = refl; moment_is = refl }; since = le_refl (length h.past); leaves = image }
 
-module _ {A C K D : Type 0} (hosts : HostsInTurn) (R : Rules A C K) (first : ProgramParts A C K) (sources : C) (sink : K) (agenda : A)
+module _ {A C K D : Type 0} (hosts : HostsInTurn) (one : OneSheet) (R : Rules A C K) (first : ProgramParts A C K) (sources : C) (sink : K) (agenda : A)
     (opened : Result HostView (OpenFault D)) (model : IsTrue first.disk.keeps_model) where
   abbrev given_back : DiskView → ProgramParts A C K
   given_back disk = program_parts disk sources sink agenda
 
   leaves_prefix : (disk : DiskView) (answer : Result (Unit {0}) RunFault) (it : RanOver R first (given_back disk) answer) → IsTrue disk.keeps_model → IsImage disk.history.now (bytes_on disk)
-      → OpensAfterPrograms disk opened → (e : Earlier first.disk) → LeavesPrefix R first (given_back disk) answer opened it e
+      → OpensAfterActs disk opened → (e : EarlierUses first.disk) → LeavesPrefix R first (given_back disk) answer opened it e
   leaves_prefix disk answer it kept image after e =
-      let turn = turn_of it.steps (whole hosts R first (given_back disk) answer it model e).events in
-      let left = has_ended hosts R first (given_back disk) answer it model e (bytes_on disk) (crashed_now disk.history (bytes_on disk) image) in record {
-        unreported = (whole hosts R first (given_back disk) answer it model e).events;
-        opening = opening hosts R first (given_back disk) answer it model e;
-        within = within hosts R first (given_back disk) answer it model e;
-        printed_is = printed_is hosts R first (given_back disk) answer it model e;
-        ended = has_ended hosts R first (given_back disk) answer it model e;
-        opens = after kept first.disk.room e.ops e.image (e.turns ++ turn ∷ []) e.allowed e.found left.goes_on;
+      let turn = turn_of it.steps (whole hosts one R first (given_back disk) answer it model e).events in
+      let left = has_ended hosts one R first (given_back disk) answer it model e (bytes_on disk) (crashed_now disk.history (bytes_on disk) image) in record {
+        unreported = (whole hosts one R first (given_back disk) answer it model e).events;
+        opening = opening hosts one R first (given_back disk) answer it model e;
+        within = within hosts one R first (given_back disk) answer it model e;
+        printed_is = printed_is hosts one R first (given_back disk) answer it model e;
+        ended = has_ended hosts one R first (given_back disk) answer it model e;
+        opens = after kept first.disk.room e.ops e.image (e.acts ++ run_act turn ∷ []) e.allowed e.found left.goes_on;
       }
 
-  still_opens : (disk : DiskView) → IsTrue disk.keeps_model → Looks first.disk.history disk.history → OpensAfterPrograms disk opened → (e : Earlier first.disk)
-      → Opens first.disk.room e.ops e.image (bytes_on disk) e.turns opened
+  still_opens : (disk : DiskView) → IsTrue disk.keeps_model → Looks first.disk.history disk.history → OpensAfterActs disk opened → (e : EarlierUses first.disk)
+      → OpensSo first.disk.room e.ops e.image (bytes_on disk) e.acts opened
   still_opens disk kept looks after e =
-      after kept first.disk.room e.ops e.image e.turns e.allowed e.found (subst (λ (i : Image). Invocations first.disk.room e.image e.turns i) (sym looks.content) e.came)
+      after kept first.disk.room e.ops e.image e.acts e.allowed e.found (subst (λ (i : Image). Uses first.disk.room e.image e.acts i) (sym looks.content) e.came)
 
   pub runs_then_opens : (disk : DiskView) (answer : Result (Unit {0}) RunFault) → Over R first (given_back disk) answer → IsTrue disk.keeps_model → IsImage disk.history.now (bytes_on disk)
-      → OpensAfterPrograms disk opened → RunsThenOpens R first sources sink agenda opened answer
+      → OpensAfterActs disk opened → RunsThenOpens R first sources sink agenda opened answer
   runs_then_opens disk answer (ran_over reported it) kept image after = ran reported disk it (leaves_prefix disk reported it kept image after)
   runs_then_opens disk answer (not_opened why was) kept image after = unopened why disk was
       (λ restarted crash crashed. opening_leaves (bytes_on first.disk) first.disk disk crash restarted (was.looks model) crashed)
       (still_opens disk kept (was.looks model) after)
 
 -- A crash left this image of the disk at this moment, and it was opened.
-module _ {A C K D : Type 0} (hosts : HostsInTurn) (R : Rules A C K) (first last : ProgramParts A C K) (answer : Result (Unit {0}) RunFault) (it : RanOver R first last answer) (model : IsTrue first.disk.keeps_model)
+module _ {A C K D : Type 0} (hosts : HostsInTurn) (one : OneSheet) (R : Rules A C K) (first last : ProgramParts A C K) (answer : Result (Unit {0}) RunFault) (it : RanOver R first last answer) (model : IsTrue first.disk.keeps_model)
     (moment : ℕ) (state : DiskState) (at : AtMoment moment last.disk.history state) (crash : DiskView) (kept : IsTrue crash.keeps_model) (image : IsImage state (bytes_on crash))
-    (opened : Result HostView (OpenFault D)) (after : OpensAfterPrograms crash opened) (e : Earlier first.disk) where
-  opens_with : (turn : HostTurn) → LeftWith e turn (bytes_on crash) → Opens first.disk.room e.ops e.image (bytes_on crash) (e.turns ++ turn ∷ []) opened
-  opens_with turn left = after kept first.disk.room e.ops e.image (e.turns ++ turn ∷ []) e.allowed e.found left.goes_on
+    (opened : Result HostView (OpenFault D)) (after : OpensAfterActs crash opened) (e : EarlierUses first.disk) where
+  opens_with : (act : Act) → LeftWith first.disk e act (bytes_on crash) → OpensSo first.disk.room e.ops e.image (bytes_on crash) (e.acts ++ act ∷ []) opened
+  opens_with act left = after kept first.disk.room e.ops e.image (e.acts ++ act ∷ []) e.allowed e.found left.goes_on
 
   abbrev crashed_at : (from : History) → length from.past ≤ moment → CrashedSince from last.disk.history (bytes_on crash)
   crashed_at from since = record { moment = moment; state = state; at = at; since = since; leaves = image }
 
   pub opens_after_crash : OpensAfterCrash R first last answer it moment (bytes_on crash) opened e
   opens_after_crash = record {
-    unreported = (whole hosts R first last answer it model e).events;
+    unreported = (whole hosts one R first last answer it model e).events;
     within = λ since.
-        opens_with (unknown_reports (turn_of it.steps (whole hosts R first last answer it model e).events))
-        (within hosts R first last answer it model e (bytes_on crash) (crashed_at it.opened.now.history since));
+        opens_with (unknown_reports (turn_of it.steps (whole hosts one R first last answer it model e).events))
+        (within hosts one R first last answer it model e (bytes_on crash) (crashed_at it.opened.now.history since));
     printed_is = λ done rest r is.
-        let p = printed_is hosts R first last answer it model e done rest r is in (
+        let p = printed_is hosts one R first last answer it model e done rest r is in (
           p,
           λ since.
-              opens_with (record { events = (turn_of it.steps p.unreported).events; reported = outcomes_of (trace done) })
+              opens_with (reported_by it.steps p.unreported done)
               (p.since (bytes_on crash) (crashed_at p.there.disk.history since)),
         );
   }
 
-pub runs_then_crashes : {A C K D : Type 0} → HostsInTurn → (R : Rules A C K) (first : ProgramParts A C K) (sources : C) (sink : K) (agenda : A) (disk : DiskView) (answer : Result (Unit {0}) RunFault)
-    → IsTrue first.disk.keeps_model → Over R first (program_parts disk sources sink agenda) answer → (moment : ℕ) (opened : Option (Result HostView (OpenFault D)))
-    → IfSome opened (OpensCrashed moment disk) → IfSome opened (λ o. RunsThenCrashes R first sources sink agenda moment o answer)
-runs_then_crashes hosts R first sources sink agenda disk answer model over moment None left = tt
-runs_then_crashes hosts R first sources sink agenda disk answer model (ran_over reported it) moment (Some opened) left =
-    was_cut reported disk left.state (bytes_on left.crash) it left.at left.image
-    (λ e. opens_after_crash hosts R first (program_parts disk sources sink agenda) reported it model moment left.state left.at left.crash left.keeps_model left.image opened left.opens e)
-runs_then_crashes hosts R first sources sink agenda disk answer model (not_opened why was) moment (Some opened) left = not_begun why disk was
+pub runs_then_crashes : {A C K D : Type 0} → HostsInTurn → OneSheet → (R : Rules A C K) (first : ProgramParts A C K) (sources : C) (sink : K) (agenda : A) (disk : DiskView) (answer : Result (Unit {0}) RunFault)
+    → IsTrue first.disk.keeps_model → Over R first (program_parts disk sources sink agenda) answer → (choice : Choice) (opened : Option (Result HostView (OpenFault D)))
+    → IfSome opened (OpensCrashed choice disk) → IfSome opened (λ o. RunsThenCrashes R first sources sink agenda choice o answer)
+runs_then_crashes hosts one R first sources sink agenda disk answer model over choice None left = tt
+runs_then_crashes hosts one R first sources sink agenda disk answer model (ran_over reported it) choice (Some opened) left =
+    was_cut reported disk left.state (bytes_on left.crash) it left.at left.named left.image
+    (λ e. opens_after_crash hosts one R first (program_parts disk sources sink agenda) reported it model choice.moment left.state left.at left.crash left.keeps_model left.image opened left.opens e)
+runs_then_crashes hosts one R first sources sink agenda disk answer model (not_opened why was) choice (Some opened) left = not_begun why disk was

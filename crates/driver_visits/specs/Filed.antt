@@ -2,15 +2,11 @@
 -- of `check_accepting`, the law of this crate and the theorem are one statement. (docs/trust/THEOREM.md; premises A1 to A7 in the README of crate `theorem`.)
 use Rattle.std.specs.Prelude.{◌≡◌, List, [], ◌∷◌, ◌++◌, Option, ℕ, Result, Err}
 use Rattle.std.specs.Io.KnownBytes.{Appends}
-use Rattle.disk_model.specs.Disk.{DiskView, Image, Looks, bytes_on}
+use Rattle.disk_model.specs.Disk.{DiskView, Looks, bytes_on}
 use Rattle.journal.specs.declared.journal.OpenFault.{OpenFault}
 use Rattle.worksheet.specs.declared.op.Op.{Op}
-use Rattle.worksheet.specs.Ops.{sheet_of}
-use Rattle.worksheet.specs.Checks.{Allowed}
-use Rattle.recovery.specs.Sheets.{IsSheetImage}
 use Rattle.session_engine.specs.Host.{HostView}
-use Rattle.theorem.specs.Story.{CrashedSince}
-use Rattle.theorem.specs.Acts.{Act, AreAnswers, OpensSo, Uses, filed}
+use Rattle.theorem.specs.Acts.{AreAnswers, OpensSo, filed}
 use Rattle.offline_programs.specs.declared.fault.RunFault.TheVariants as fault
 use Rattle.check_report.specs.declared.report.Format.TheVariants as format
 use Rattle.check_report.specs.declared.verdict.Counts.{Counts}
@@ -19,20 +15,7 @@ use Rattle.sheet_check.specs.Accept.{accepted}
 use Rattle.sheet_check.specs.declared.named.CheckFault.{CheckFault}
 use Rattle.sheet_check.specs.declared.named.CheckFault.TheVariants as checks
 use Rattle.driver_visits.specs.Acceptances.{AtMostOneMore, closing_after}
-
--- What was there before an acceptance: an image of a worksheet of allowed ops at first (A2), and uses of the program that led from it to the bytes that
--- are read on this disk now (A3 to A5).
-pub record EarlierUses (disk : DiskView) : Type 0 where
-  pub ops : List Op
-  pub image : Image
-  pub acts : List Act
-  pub allowed : Allowed ops
-  pub found : IsSheetImage (sheet_of ops) image
-  pub came : Uses disk.room image acts (bytes_on disk)
-
--- with this act as the last the uses led to this image
-abbrev pub LedTo : (disk : DiskView) → EarlierUses disk → Act → Image → Type 0
-LedTo disk e act after = Uses disk.room e.image (e.acts ++ act ∷ []) after
+use Rattle.driver_visits.specs.Earlier.{CrashesLeave, EarlierUses}
 
 -- What an acceptance that reported these answers leaves on a disk, and what is opened of it.
 pub data LeavesAnswers {D : Type 0} (disk back : DiskView) (opened : Result HostView (OpenFault D)) (e : EarlierUses disk) : List Op → Type 0 where
@@ -41,8 +24,7 @@ pub data LeavesAnswers {D : Type 0} (disk back : DiskView) (opened : Result Host
   -- It opened it, which changed no byte. A crash after that leaves some of the answers that it put in; one at its end all that it reported, and these, with
   -- at most one more, are in the worksheet that is opened.
   with_answers : {reported : List Op} (put : List Op) (now : DiskView) → Looks disk.history now.history → AreAnswers put → AtMostOneMore put reported
-      → ((after : Image) → CrashedSince now.history back.history after → LedTo disk e (filed put []) after)
-      → ((after : Image) → CrashedSince back.history back.history after → LedTo disk e (filed put reported) after)
+      → CrashesLeave disk e (filed put []) now.history back.history → CrashesLeave disk e (filed put reported) back.history back.history
       → OpensSo disk.room e.ops e.image (bytes_on back) (e.acts ++ filed put reported ∷ []) opened → LeavesAnswers disk back opened e reported
 
 -- An acceptance of these cases was answered so, and the disk was opened again. What it wrote is the report of them and no more, but where its output failed.

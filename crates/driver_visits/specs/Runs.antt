@@ -1,19 +1,17 @@
--- One run of a program, after whatever invocations there were: what a crash at any moment of it leaves, and what opens when it has ended. So the contract
+-- One run of a program, after whatever uses of it there were: what a crash at any moment of it leaves, and what opens when it has ended. So the contract
 -- of `run_over`, the laws of this crate and the theorem are one statement. (docs/trust/THEOREM.md; premises A1 to A7 in the README of crate `theorem`.)
 use Rattle.std.specs.Prelude.{◌≡◌, ◌≤◌, ℕ, IsTrue, List, [], ◌∷◌, ◌++◌, length, true, Result, Err}
 use Rattle.disk_model.specs.Disk.{AtMoment, DiskState, DiskView, History, Image, IsImage, IsRestarted, bytes_on}
 use Rattle.journal.specs.declared.journal.OpenFault.{OpenFault}
 use Rattle.journal.specs.declared.opening.OpenCause.{OpenCause}
-use Rattle.worksheet.specs.declared.op.Op.{Op}
-use Rattle.worksheet.specs.Ops.{sheet_of}
-use Rattle.worksheet.specs.Checks.{Allowed}
-use Rattle.recovery.specs.Sheets.{IsSheetImage}
+use Rattle.disk_model.specs.Crash.{image_named}
+use Rattle.disk_model.specs.declared.crash.Choice.{Choice}
 use Rattle.host_events.specs.declared.event.Event.{Event}
 use Rattle.session_engine.specs.Host.{HostView}
-use Rattle.host_laws.specs.Turns.{HostTurn, LeftInTurn}
+use Rattle.host_laws.specs.Turns.{HostTurn}
 use Rattle.child_edge.specs.Moments.{outcomes_of}
-use Rattle.theorem.specs.Story.{CrashedSince, Opens}
-use Rattle.theorem.specs.Programs.{Invocations, OpensAfterPrograms}
+use Rattle.theorem.specs.Story.{CrashedSince}
+use Rattle.theorem.specs.Acts.{Act, OpensAfterActs, OpensSo, hosted}
 use Rattle.offline_programs.specs.declared.fault.RunFault.{RunFault}
 use Rattle.offline_programs.specs.declared.fault.RunFault.TheVariants as fault
 use Rattle.driver.specs.Reports.{Report, printed_text}
@@ -23,86 +21,77 @@ use Rattle.driver.specs.Steps.{Run}
 use Rattle.driver.specs.Laws.{trace}
 use Rattle.driver.specs.Over.{ProgramParts, RanOver, WasNotOpened, first_place, program_parts}
 use Rattle.driver_visits.specs.Visits.{turn_of}
-
--- What was there before a run: an image of a worksheet of allowed ops at first (A2), and invocations that led from it to the bytes that are read
--- on this disk now (A3 to A5).
-pub record Earlier (disk : DiskView) : Type 0 where
-  pub ops : List Op
-  pub image : Image
-  pub turns : List HostTurn
-  pub allowed : Allowed ops
-  pub found : IsSheetImage (sheet_of ops) image
-  pub came : Invocations disk.room image turns (bytes_on disk)
-
--- With this turn as the last the invocations led to this image. It is one of the worksheet after a prefix of the events of each of them, with all that
--- each reported; and an answer in it was there at first, or is the whole block that answered its line.
-pub record LeftWith {disk : DiskView} (e : Earlier disk) (turn : HostTurn) (after : Image) : Type 0 where
-  pub goes_on : Invocations disk.room e.image (e.turns ++ turn ∷ []) after
-  pub left : LeftInTurn disk.room e.ops e.image after (e.turns ++ turn ∷ [])
-
--- wherever a crash comes from this moment of the disk to that one (A5), it leaves such an image
-abbrev pub CrashesLeave : {disk : DiskView} → Earlier disk → HostTurn → History → History → Type 0
-CrashesLeave e turn from to = (after : Image) → CrashedSince from to after → LeftWith e turn after
+use Rattle.driver_visits.specs.Earlier.{CrashesLeave, EarlierUses}
 
 -- A crash while the worksheet is opened leaves what was there, on a disk that was restarted.
 abbrev pub OpeningLeaves : DiskView → History → Type 0
 OpeningLeaves disk opened = IsRestarted (bytes_on disk) disk → (after : Image) → CrashedSince disk.history opened after → after ≡ bytes_on disk
 
--- this turn, of which it isn't known what it reported
-abbrev pub unknown_reports : HostTurn → HostTurn
-unknown_reports turn = record { events = turn.events; reported = [] }
+-- a run that had this turn
+abbrev pub run_act : HostTurn → Act
+run_act turn = hosted (turn ∷ [])
+
+-- a run that had this turn, of which it isn't known what it reported
+abbrev pub unknown_reports : HostTurn → Act
+unknown_reports turn = run_act (record { events = turn.events; reported = [] })
+
+-- a run that took the events of these steps, and those, of which nothing was reported, and had reported what it took by then
+abbrev pub reported_by : List RunStep → List Event → List RunStep → Act
+reported_by steps unreported done = run_act (record { events = (turn_of steps unreported).events; reported = outcomes_of (trace done) })
 
 -- This was printed where these steps, the first of the run, had led. A crash since its text was tried leaves the events of all these steps: they are
 -- among what was reported, by the turn that has these events at its end of which nothing was.
-pub record LeavesPrinted {A C K : Type 0} (R : Rules A C K) (first last : ProgramParts A C K) (answer : Result (Unit {0}) RunFault) (it : RanOver R first last answer) (e : Earlier first.disk) (done : List RunStep) (r : Report) : Type 0 where
+pub record LeavesPrinted {A C K : Type 0} (R : Rules A C K) (first last : ProgramParts A C K) (answer : Result (Unit {0}) RunFault) (it : RanOver R first last answer) (e : EarlierUses first.disk) (done : List RunStep) (r : Report) : Type 0 where
   pub there : RunPlace A C K
   pub to_do : List Item
   pub ran : Run R (first_place first it.opened) (ask ∷ []) done to_do there
   pub sink : K
   pub tries : Tries R.sink there.sink there.disk (printed_text R.sink.voice there.world r) true sink
   pub unreported : List Event
-  pub since : CrashesLeave e (record { events = (turn_of it.steps unreported).events; reported = outcomes_of (trace done) }) there.disk.history last.disk.history
+  pub since : CrashesLeave first.disk e (reported_by it.steps unreported done) there.disk.history last.disk.history
 
 -- A crash at any moment of a run that opened the worksheet leaves the worksheet after a prefix of its events, which has all that was printed by then;
 -- and what is opened on the disk that the run gave back is the worksheet with all that it reported.
-pub record LeavesPrefix {A C K D : Type 0} (R : Rules A C K) (first last : ProgramParts A C K) (answer : Result (Unit {0}) RunFault) (opened : Result HostView (OpenFault D)) (it : RanOver R first last answer) (e : Earlier first.disk) : Type 0 where
+pub record LeavesPrefix {A C K D : Type 0} (R : Rules A C K) (first last : ProgramParts A C K) (answer : Result (Unit {0}) RunFault) (opened : Result HostView (OpenFault D)) (it : RanOver R first last answer) (e : EarlierUses first.disk) : Type 0 where
   -- events that it took last, of which nothing was reported
   pub unreported : List Event
   pub opening : OpeningLeaves first.disk it.opened.now.history
-  pub within : CrashesLeave e (unknown_reports (turn_of it.steps unreported)) it.opened.now.history last.disk.history
+  pub within : CrashesLeave first.disk e (unknown_reports (turn_of it.steps unreported)) it.opened.now.history last.disk.history
   pub printed_is : (done rest : List RunStep) (r : Report) → it.steps ≡ done ++ printed r ∷ rest → LeavesPrinted R first last answer it e done r
-  pub ended : CrashesLeave e (turn_of it.steps unreported) last.disk.history last.disk.history
-  pub opens : Opens first.disk.room e.ops e.image (bytes_on last.disk) (e.turns ++ turn_of it.steps unreported ∷ []) opened
+  pub ended : CrashesLeave first.disk e (run_act (turn_of it.steps unreported)) last.disk.history last.disk.history
+  pub opens : OpensSo first.disk.room e.ops e.image (bytes_on last.disk) (e.acts ++ run_act (turn_of it.steps unreported) ∷ []) opened
 
 -- What a run over a disk, and an opening after it, came to: it ran, and leaves that; or it didn't open the worksheet, left what was there, and that is
 -- what is opened, unless it fails again.
 pub data RunsThenOpens {A C K D : Type 0} (R : Rules A C K) (first : ProgramParts A C K) (sources : C) (sink : K) (agenda : A) (opened : Result HostView (OpenFault D)) : Result (Unit {0}) RunFault → Type 0 where
   ran : (answer : Result (Unit {0}) RunFault) (disk : DiskView) (it : RanOver R first (program_parts disk sources sink agenda) answer)
-      → ((e : Earlier first.disk) → LeavesPrefix R first (program_parts disk sources sink agenda) answer opened it e) → RunsThenOpens R first sources sink agenda opened answer
+      → ((e : EarlierUses first.disk) → LeavesPrefix R first (program_parts disk sources sink agenda) answer opened it e) → RunsThenOpens R first sources sink agenda opened answer
   unopened : (why : OpenCause) (disk : DiskView) → WasNotOpened first (program_parts disk sources sink agenda) why → OpeningLeaves first.disk disk.history
-      → ((e : Earlier first.disk) → Opens first.disk.room e.ops e.image (bytes_on disk) e.turns opened) → RunsThenOpens R first sources sink agenda opened (Err (fault.Open why))
+      → ((e : EarlierUses first.disk) → OpensSo first.disk.room e.ops e.image (bytes_on disk) e.acts opened) → RunsThenOpens R first sources sink agenda opened (Err (fault.Open why))
 
--- A crash at this moment of a disk left an image, and this was opened on a disk that holds it: what the theorem says.
-pub record OpensCrashed {D : Type 0} (moment : ℕ) (disk : DiskView) (opened : Result HostView (OpenFault D)) : Type 0 where
+-- A crash by this choice left an image of a disk, and this was opened on a disk that holds it: what the theorem says.
+pub record OpensCrashed {D : Type 0} (choice : Choice) (disk : DiskView) (opened : Result HostView (OpenFault D)) : Type 0 where
   pub state : DiskState
-  pub at : AtMoment moment disk.history state
+  pub at : AtMoment choice.moment disk.history state
   pub crash : DiskView
+  pub named : bytes_on crash ≡ image_named choice.fill choice.grown state
   pub image : IsImage state (bytes_on crash)
   pub keeps_model : IsTrue crash.keeps_model
-  pub opens : OpensAfterPrograms crash opened
+  pub opens : OpensAfterActs crash opened
 
 -- What is opened on the image that a crash left at this moment of a run: where the worksheet had been opened by then, the worksheet after a prefix of the
 -- run's events, which has all that had been printed.
-pub record OpensAfterCrash {A C K D : Type 0} (R : Rules A C K) (first last : ProgramParts A C K) (answer : Result (Unit {0}) RunFault) (it : RanOver R first last answer) (moment : ℕ) (after : Image) (opened : Result HostView (OpenFault D)) (e : Earlier first.disk) : Type 0 where
+pub record OpensAfterCrash {A C K D : Type 0} (R : Rules A C K) (first last : ProgramParts A C K) (answer : Result (Unit {0}) RunFault) (it : RanOver R first last answer) (moment : ℕ) (after : Image) (opened : Result HostView (OpenFault D)) (e : EarlierUses first.disk) : Type 0 where
   pub unreported : List Event
-  pub within : length it.opened.now.history.past ≤ moment → Opens first.disk.room e.ops e.image after (e.turns ++ unknown_reports (turn_of it.steps unreported) ∷ []) opened
+  pub within : length it.opened.now.history.past ≤ moment → OpensSo first.disk.room e.ops e.image after (e.acts ++ unknown_reports (turn_of it.steps unreported) ∷ []) opened
   pub printed_is : (done rest : List RunStep) (r : Report) → it.steps ≡ done ++ printed r ∷ rest
       → (p : LeavesPrinted R first last answer it e done r)
-      × (length p.there.disk.history.past ≤ moment → Opens first.disk.room e.ops e.image after (e.turns ++ record { events = (turn_of it.steps p.unreported).events; reported = outcomes_of (trace done) } ∷ []) opened)
+      × (length p.there.disk.history.past ≤ moment → OpensSo first.disk.room e.ops e.image after (e.acts ++ reported_by it.steps p.unreported done ∷ []) opened)
 
--- A run over a disk was answered so, a crash at this moment of it left an image, and that was opened.
-pub data RunsThenCrashes {A C K D : Type 0} (R : Rules A C K) (first : ProgramParts A C K) (sources : C) (sink : K) (agenda : A) (moment : ℕ) (opened : Result HostView (OpenFault D)) : Result (Unit {0}) RunFault → Type 0 where
+-- A run over a disk was answered so, a crash by this choice left this image of the disk, and that was opened.
+pub data RunsThenCrashes {A C K D : Type 0} (R : Rules A C K) (first : ProgramParts A C K) (sources : C) (sink : K) (agenda : A) (choice : Choice) (opened : Result HostView (OpenFault D)) : Result (Unit {0}) RunFault → Type 0 where
   was_cut : (answer : Result (Unit {0}) RunFault) (disk : DiskView) (state : DiskState) (after : Image) (it : RanOver R first (program_parts disk sources sink agenda) answer)
-      → AtMoment moment disk.history state → IsImage state after → ((e : Earlier first.disk) → OpensAfterCrash R first (program_parts disk sources sink agenda) answer it moment after opened e)
-      → RunsThenCrashes R first sources sink agenda moment opened answer
-  not_begun : (why : OpenCause) (disk : DiskView) → WasNotOpened first (program_parts disk sources sink agenda) why → RunsThenCrashes R first sources sink agenda moment opened (Err (fault.Open why))
+      → AtMoment choice.moment disk.history state → after ≡ image_named choice.fill choice.grown state → IsImage state after
+      → ((e : EarlierUses first.disk) → OpensAfterCrash R first (program_parts disk sources sink agenda) answer it choice.moment after opened e)
+      → RunsThenCrashes R first sources sink agenda choice opened answer
+  not_begun : (why : OpenCause) (disk : DiskView) → WasNotOpened first (program_parts disk sources sink agenda) why → RunsThenCrashes R first sources sink agenda choice opened (Err (fault.Open why))

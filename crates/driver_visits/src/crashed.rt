@@ -32,7 +32,7 @@ fn open_crashed(
     disk: &MemoryDisk,
     choice: &Choice,
 ) -> Option<Result<Host<MemoryDisk>, OpenFault<MemoryDisk>>>
-    ensures { IfSome result (OpensCrashed choice.now.moment (view_of disk.now)) }
+    ensures { IfSome result (OpensCrashed choice.now (view_of disk.now)) }
 {
     if choice.moment > disk.calls() {
         return None;
@@ -59,9 +59,10 @@ pub fn run_then_crash<S: Sources, K: Sink, A: Agenda>(
     ensures { IfSome result.opened (λ opened. RunsThenCrashes
         (rules (agenda_rules A.rules A.joins) (source_rules S.after S.wakes S.clock) K.rules)
         (program_parts (view_of disk) sources sink agenda)
-        result.sources result.sink result.agenda choice.now.moment opened result.answer) }
+        result.sources result.sink result.agenda choice.now opened result.answer) }
 {
     host_laws::hosts_in_turn();
+    recovery::one_sheet();
     let Over {
         disk,
         sources,

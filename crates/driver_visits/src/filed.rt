@@ -35,6 +35,8 @@ pub fn accept_then_open<D: Disk, C: Sources, W: Write, P: Progress>(
     ensures { InModel (D.view disk) (AcceptsThenOpens (W.contents writer.old)
         (W.contents writer.new) (D.view disk) result.answer result.opened) }
 {
+    host_laws::hosts_in_turn();
+    recovery::one_sheet();
     let Checked {
         disk,
         sources,

@@ -26,7 +26,7 @@ pub struct RanThenOpened<D: Disk, S, K, A> {
 
 /// Runs a program over a disk, by the call that `run`, `live` and `eval` make, and opens the disk again.
 ///
-/// The contract is the theorem of that call, whatever invocations there were before: at each moment of it a crash leaves the worksheet after
+/// The contract is the theorem of that call, whatever uses of the program there were before: at each moment of it a crash leaves the worksheet after
 /// a prefix of its events, with all that was printed by then; and what opens after it has all that it reported.
 pub fn run_then_open<D: Disk, S: Sources, K: Sink, A: Agenda>(
     alloc: Global,
@@ -41,6 +41,7 @@ pub fn run_then_open<D: Disk, S: Sources, K: Sink, A: Agenda>(
         result.sources result.sink result.agenda result.opened result.answer) }
 {
     host_laws::hosts_in_turn();
+    recovery::one_sheet();
     let Over {
         disk,
         sources,

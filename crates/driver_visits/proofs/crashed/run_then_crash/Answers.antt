@@ -8,7 +8,7 @@ use Rattle.driver_visits.proofs.crashed.run_then_crash.Goals as goal
 pub returns : goal.returns
 returns g c =
     let over = c.run_over-disk.result in
-    runs_then_crashes c.hosts_in_turn.ensures
+    runs_then_crashes c.hosts_in_turn.ensures c.one_sheet.ensures
     (rules (agenda_rules g.A.Agenda.rules g.A.Joins.joins) (source_rules g.S.Children.after g.S.Sources.wakes g.S.Sources.clock) g.K.Sink.rules)
     (program_parts (view_of c.args.disk) c.args.sources c.args.sink c.args.agenda) over.sources over.sink over.agenda (view_of over.disk) over.answer refl c.run_over-disk.ensures.over
-    c.args.choice.now.moment c.open_crashed.result c.open_crashed.ensures
+    c.args.choice.now c.open_crashed.result c.open_crashed.ensures

@@ -8,7 +8,7 @@ pub returns : goal.returns
 returns g c = λ model.
     let over = c.run_over-disk.result in
     let kept : IsTrue (g.D.Disk.view over.disk).keeps_model = subst IsTrue (sym c.run_over-disk.ensures.same.keeps_model) model in
-    runs_then_opens c.hosts_in_turn.ensures
+    runs_then_opens c.hosts_in_turn.ensures c.one_sheet.ensures
     (rules (agenda_rules g.A.Agenda.rules g.A.Joins.joins) (source_rules g.S.Children.after g.S.Sources.wakes g.S.Sources.clock) g.K.Sink.rules)
     (program_parts (g.D.Disk.view c.args.disk) c.args.sources c.args.sink c.args.agenda) over.sources over.sink over.agenda c.opened_after.result model
-    (g.D.Disk.view over.disk) over.answer c.run_over-disk.ensures.over kept (g.met.D.Disk.content_stays over.disk kept) c.opened_after.ensures.programs
+    (g.D.Disk.view over.disk) over.answer c.run_over-disk.ensures.over kept (g.met.D.Disk.content_stays over.disk kept) c.opened_after.ensures.acts
