@@ -65,7 +65,7 @@ EXPANDED: set[Key] = {
     ("driver_visits.Earlier", "CrashesLeave"),
     ("driver_visits.Runs", "OpeningLeaves"),
     ("driver_visits.Runs", "run_act"),
-    ("driver_visits.Runs", "reported_by"),
+    ("driver_visits.Runs", "run_reporting"),
     ("driver_visits.Runs", "unknown_reports"),
     ("driver_visits.Runs", "LeavesPrinted"),
     ("driver_visits.Runs", "LeavesPrefix"),

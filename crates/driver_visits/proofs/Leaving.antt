@@ -24,7 +24,7 @@ use Rattle.driver.specs.Laws.{trace}
 use Rattle.driver.specs.Runs.{left_at_end}
 use Rattle.driver.specs.Over.{Over, ProgramParts, RanOver, first_place, not_opened, program_parts, ran_over}
 use Rattle.driver_visits.specs.Earlier.{CrashesLeave, EarlierUses, LeftWith}
-use Rattle.driver_visits.specs.Runs.{LeavesPrefix, LeavesPrinted, OpeningLeaves, OpensAfterCrash, OpensCrashed, RunsThenCrashes, RunsThenOpens, not_begun, ran, reported_by, run_act, unknown_reports, unopened, was_cut}
+use Rattle.driver_visits.specs.Runs.{LeavesPrefix, LeavesPrinted, OpeningLeaves, OpensAfterCrash, OpensCrashed, RunsThenCrashes, RunsThenOpens, not_begun, ran, run_reporting, run_act, unknown_reports, unopened, was_cut}
 use Rattle.driver_visits.specs.Visits.{turn_of}
 use Rattle.driver_visits.proofs.Parts.{Parted, parted}
 use Rattle.driver_visits.proofs.Visiting.{durable_at, visit_by}
@@ -131,7 +131,7 @@ module _ {A C K D : Type 0} (hosts : HostsInTurn) (one : OneSheet) (R : Rules A 
         let p = printed_is hosts one R first last answer it model e done rest r is in (
           p,
           λ since.
-              opens_with (reported_by it.steps p.unreported done)
+              opens_with (run_reporting it.steps p.unreported done)
               (p.since (bytes_on crash) (crashed_at p.there.disk.history since)),
         );
   }

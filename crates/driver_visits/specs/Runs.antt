@@ -36,8 +36,8 @@ abbrev pub unknown_reports : HostTurn → Act
 unknown_reports turn = run_act (record { events = turn.events; reported = [] })
 
 -- a run that took the events of these steps, and those, of which nothing was reported, and had reported what it took by then
-abbrev pub reported_by : List RunStep → List Event → List RunStep → Act
-reported_by steps unreported done = run_act (record { events = (turn_of steps unreported).events; reported = outcomes_of (trace done) })
+abbrev pub run_reporting : List RunStep → List Event → List RunStep → Act
+run_reporting steps unreported done = run_act (record { events = (turn_of steps unreported).events; reported = outcomes_of (trace done) })
 
 -- This was printed where these steps, the first of the run, had led. A crash since its text was tried leaves the events of all these steps: they are
 -- among what was reported, by the turn that has these events at its end of which nothing was.
@@ -48,7 +48,7 @@ pub record LeavesPrinted {A C K : Type 0} (R : Rules A C K) (first last : Progra
   pub sink : K
   pub tries : Tries R.sink there.sink there.disk (printed_text R.sink.voice there.world r) true sink
   pub unreported : List Event
-  pub since : CrashesLeave first.disk e (reported_by it.steps unreported done) there.disk.history last.disk.history
+  pub since : CrashesLeave first.disk e (run_reporting it.steps unreported done) there.disk.history last.disk.history
 
 -- A crash at any moment of a run that opened the worksheet leaves the worksheet after a prefix of its events, which has all that was printed by then;
 -- and what is opened on the disk that the run gave back is the worksheet with all that it reported.
@@ -86,7 +86,7 @@ pub record OpensAfterCrash {A C K D : Type 0} (R : Rules A C K) (first last : Pr
   pub within : length it.opened.now.history.past ≤ moment → OpensSo first.disk.room e.ops e.image after (e.acts ++ unknown_reports (turn_of it.steps unreported) ∷ []) opened
   pub printed_is : (done rest : List RunStep) (r : Report) → it.steps ≡ done ++ printed r ∷ rest
       → (p : LeavesPrinted R first last answer it e done r)
-      × (length p.there.disk.history.past ≤ moment → OpensSo first.disk.room e.ops e.image after (e.acts ++ reported_by it.steps p.unreported done ∷ []) opened)
+      × (length p.there.disk.history.past ≤ moment → OpensSo first.disk.room e.ops e.image after (e.acts ++ run_reporting it.steps p.unreported done ∷ []) opened)
 
 -- A run over a disk was answered so, a crash by this choice left this image of the disk, and that was opened.
 pub data RunsThenCrashes {A C K D : Type 0} (R : Rules A C K) (first : ProgramParts A C K) (sources : C) (sink : K) (agenda : A) (choice : Choice) (opened : Result HostView (OpenFault D)) : Result (Unit {0}) RunFault → Type 0 where
