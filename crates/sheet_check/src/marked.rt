@@ -24,7 +24,7 @@ fn is_asked(mark: Mark) -> bool
     }
 }
 
-/// Whether the mark says that there was no memory for a mark.
+/// Whether the mark says that there was no memory for the line of a field.
 fn is_no_memory(mark: Mark) -> bool
     ensures { result ≡ marked.is_no_memory mark }
 {
@@ -55,7 +55,7 @@ pub(crate) fn was_asked(marks: &[Mark]) -> bool
     marks.iter().any(|mark| is_asked(*mark))
 }
 
-/// Whether there was no memory for one of these marks.
+/// Whether one of these marks says that there was no memory for the line of a field.
 pub(crate) fn lacked_memory(marks: &[Mark]) -> bool
     ensures { result ≡ marked.lacked_memory marks.now }
 {
