@@ -20,8 +20,9 @@ GRACE = 2.0  # seconds for an interpreter that was interrupted to say so
 
 @dataclasses.dataclass
 class Plan:
-    """What is run and how: `chosen` says which cases, `slots` how many at a time over all files, `ended` that no more are begun,
-    and `is_broken_off` that what comes now isn't what a case came to."""
+    """What is run and how: `chosen` says which cases, `seconds` how long one may take, `slots` how many run at a time over all files, `ended` that no
+    more are begun, `is_broken_off` that what comes now isn't what a case came to, `fails_fast` that none is begun after a failure, and `seed` in which
+    order they come where it is drawn."""
 
     chosen: Callable[[int, Case], bool]
     seconds: float
