@@ -5,9 +5,9 @@ from .support import Case, case
 
 CODE = "def f(n):\n    return 1 / n\n\nf(0)"
 WANTED = """Traceback (most recent call last):
-  File "<line 2>", line 1, in <module>
+  File "<input>", line 1, in <module>
     f(0)
-  File "<line 1>", line 2, in f
+  File "<earlier input>", line 2, in f
     return 1 / n
            ~~^~~
 ZeroDivisionError: division by zero"""
@@ -31,20 +31,21 @@ class Tracebacks(Case):
         # What is accepted is what came, and passes wherever it stands.
         self.put(before, case(CODE, None, "py"))
         self.run_suite(self.path, "--accept")
-        self.assertIn('File "<line 5>", line 1, in <module>', self.read())
+        self.assertIn('File "<input>", line 1, in <module>', self.read())
         self.assertEqual(self.verdicts(self.path), ["ok", "ok"])
-        self.assertEqual(self.put(case(CODE, WANTED.replace("<line 2>", "<line 9>"), "py")), ["ok"])
+        # So does one of an adapter that counted fields.
+        self.assertEqual(self.put(case(CODE, WANTED.replace("<input>", "<line 9>").replace("<earlier input>", "<line 8>"), "py")), ["ok"])
 
     def test_other_numbers_are_compared(self) -> None:
-        self.assertEqual(self.put(case(CODE, WANTED.replace("line 2, in f", "line 3, in f").replace("<line 2>", "<line 9>"), "py")), ["differs"])
+        self.assertEqual(self.put(case(CODE, WANTED.replace("line 2, in f", "line 3, in f").replace("<input>", "<line 9>"), "py")), ["differs"])
         # The first frame is shown as one that is alike.
-        self.assertIn('     File "<line 2>", line 1, in <module>\n       f(0)\n  -  File "<line 1>", line 3, in f\n  +  File "<line 1>", line 2, in f\n', self.outcome.output)
+        self.assertIn('     File "<input>", line 1, in <module>\n       f(0)\n  -  File "<earlier input>", line 3, in f\n  +  File "<earlier input>", line 2, in f\n', self.outcome.output)
         said = 'say File "<line 3>", line 1'
         self.assertEqual(self.put(case(said, 'File "<line 4>", line 1'), case(said, 'File "<line 3>", line 1')), ["differs", "ok"])
 
     def test_patterns_that_have_numbers_match_as_before(self) -> None:
         error = "x = 0\n1 / x"
-        for line in (r'  File "<line [2-3]>", line 1, in <module> (re)', '  File "<line 2>", line 1, in <module>', '  File "<line *>", line 1, in * (glob)', r'  File "<line [0-9]+>", .* (re)'):
+        for line in (r'  File "<(input|x)>", line 1, in <module> (re)', '  File "<line 2>", line 1, in <module>', '  File "<input>", line 1, in <module>', '  File "<line *>", line 1, in * (glob)', r'  File "<line [0-9]+>", .* (re)'):
             self.assertEqual(self.put(case(error, f"...\n{line}\n...", "py")), ["ok"], line)
         self.assertEqual(self.put(case(error, "...\n  File FIELD, line 1, in <module>\n...", "py"), more="normal: {'\"<line [0-9]+>\"': FIELD}\n"), ["ok"])
         self.assertNotIn("found nothing", self.outcome.output)

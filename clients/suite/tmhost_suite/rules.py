@@ -10,8 +10,8 @@ from typing import FrozenSet, List, Optional, Sequence, Set, Tuple
 NUMBER = re.compile(r"(?<![\w.])[-+]?(?:(?:[0-9]+\.[0-9]*|\.[0-9]+)(?: ?[eE][-+]?[0-9]+)?|[0-9]+ ?[eE][-+]?[0-9]+)(?!\w)")
 GOES_ON = re.compile(" ?([eE][-+]?)?")  # stands after a number that may go on in the next line
 OUT_OF_BOUNDS = [decimal.InvalidOperation, decimal.Overflow, decimal.Underflow]
-# The number that a traceback of `tmhost-python` has of a field, which counts what its interpreter has got before.
-LINE_OF_PYTHON = re.compile(r'(?<=File "<line )[0-9]+(?=>")')
+# What a traceback of `tmhost-python` calls a field: itself, or one before it. Before it counted what its interpreter had got.
+FIELD_OF_PYTHON = re.compile(r'(?<=File ")<(?:input|earlier input|line [0-9]+)>(?=")')
 ANY_LINES = "..."
 BY_PATTERN, BY_GLOB = " (re)", " (glob)"
 PICTURES, FORMULAS = "pictures", "formulas"  # what can be left out
@@ -51,7 +51,7 @@ class Rules:
     """`relative` and `absolute` are how far numbers may be apart that stand in equal text: the greater of the two allowances. With
     `any_spaces` blanks are compared as one, and those at the ends of lines, and lines without anything else, not at all. What comes is cut
     into lines of `columns` characters, where what is wanted was written by an interpreter that does so. `without` is what is left out of it,
-    and `apart` says that errors are compared for themselves. With `any_field` the number of a field in a traceback of Python isn't compared."""
+    and `apart` says that errors are compared for themselves. With `any_field` which field a traceback of Python names isn't compared."""
 
     normal: Tuple[Normal, ...] = ()
     relative: Decimal = Decimal(0)
@@ -63,12 +63,13 @@ class Rules:
     any_field: bool = False
 
     def normalised(self, text: str, applied: Set[int]) -> str:
-        """The text after each rule in turn; the places of those that found something are put into `applied`."""
+        """The text after each rule in turn; the places of those that found something are put into `applied`. A rule may name fields by number."""
+        text = FIELD_OF_PYTHON.sub("<line 1>", text) if self.any_field else text
         for at, normal in enumerate(self.normal):
             text, found = normal.pattern.subn(normal.put, text)
             if found:
                 applied.add(at)
-        return LINE_OF_PYTHON.sub("1", text) if self.any_field else text
+        return text
 
     def is_wanted(self, wanted: Optional[str], got: str, applied: Set[int]) -> bool:
         """Where nothing stands after a case, it is wanted to say nothing."""
