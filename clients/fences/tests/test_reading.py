@@ -87,6 +87,18 @@ class Fields(unittest.TestCase):
         self.assertEqual(self.inputs('x = """a\nb"""', "sh"), ['x = """a', 'b"""'])
         self.assertEqual([language_in(words.split()) for words in ("python3 /a/python", "python3 a.py", "a/gp --text", "")], ["python", "", "gp", ""])
 
+    def test_what_is_longer_than_a_field_is_no_other_code(self) -> None:
+        """In a language whose texts are known a text and what stands in brackets stay one input, which no field takes: pieces of them would be
+        evaluated as other code. An end of a line counts three bytes."""
+        text = ["x = \"\"\"", *["a line of a text"] * 280, "\"\"\"", "y"]
+        numbers = ["v = [", *["1,"] * 1_500, "1]", "w"]
+        for code, language, length in ((text, "python", 5_333), (numbers, "gp", 7_510), ((*numbers[:-1], "-- a remark (", "w"), "lua", 7_510)):
+            first, *others = groups(list(code), language)
+            self.assertEqual(first.misfit, f"refused: it has {length:,} bytes (each end of a line counts three), and a field has at most 4,095")
+            self.assertEqual([it.input for it in others], list(code)[-len(others):])
+        self.assertGreater(len(list(groups(numbers, "sh"))), 1_000)
+        self.assertEqual([it.misfit for it in groups(["x" * 4_096], "python")], ["refused: it has 4,096 bytes, and a field has at most 4,095"])
+
     def test_remarks_at_the_left_edge_within_a_block(self) -> None:
         """A block goes on over them, where it goes on after them at all."""
         for code, wanted in (

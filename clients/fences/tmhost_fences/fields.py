@@ -3,6 +3,7 @@ import dataclasses
 import itertools
 import os
 import re
+import sys
 from typing import Dict, Iterator, List, Optional, Sequence, Set, Tuple
 
 from . import r
@@ -55,7 +56,8 @@ class Group:
         if CONTROL.search(self.input):
             return "refused: it has a control character"
         length = len(self.input.encode("utf-8"))
-        return f"refused: it has {length:,} bytes, and a field has at most {LONGEST_INPUT:,}" if length > LONGEST_INPUT else None
+        counted = " (each end of a line counts three)" if LINE_END in self.input else ""
+        return f"refused: it has {length:,} bytes{counted}, and a field has at most {LONGEST_INPUT:,}" if length > LONGEST_INPUT else None
 
 
 def group(at: int, lines: List[str]) -> Iterator[Group]:
@@ -137,8 +139,9 @@ def remarks_within(lines: List[str], language: str) -> Set[int]:
 
 
 def holds(lines: List[str], language: str, most: int) -> Iterator[int]:
-    """Of each line the last one that it holds: that which closes its brackets or ends its statement, where these are at most so many characters;
-    that in which it goes on by its end; else itself."""
+    """Of each line the last one that it holds: that which closes its brackets or ends its statement; that in which it goes on by its end; else
+    itself. In a language whose texts aren't known a bracket may stand in one, so that these have at most so many characters."""
+    most = sys.maxsize if language in TEXTS else most
     ends = list(itertools.accumulate((1 + len(line) for line in lines), initial=0))
     bare = without_texts(lines, language) if language in TEXTS else lines
     closed = closings(bared(lines, language))

@@ -145,7 +145,7 @@ class Reading(unittest.TestCase):
         self.assertEqual(self.inputs("f(n) =\n{\nn + 1\n\n}\nf(2)"), ["f(n) =|{|n + 1||}", "f(2)"])
         self.assertEqual(self.inputs("a = [1,2;\n3,4]\nx = \\\n3\nx"), ["a = [1,2;|3,4]", "x = \\|3", "x"])
         self.assertEqual(self.inputs("print('{', \"(\")\n1\n# see (a\nx = {\ny"), ["print('{', \"(\")", "1", "# see (a", "x = {", "y"])
-        self.assertEqual(self.inputs("x = (\n" + "y\n" * 2048 + ")"), ["x = (", *["y"] * 2047, "y|)"])
+        self.assertEqual(self.inputs("x = (\n" + "y\n" * 2048 + ")"), ["x = (|" + "y|" * 2048 + ")"])
         self.assertEqual(self.inputs("a\n\nb", "{whole}"), ["a||b"])
         self.assertEqual(self.inputs("a\nb", "{pure}"), ["a|b"])
         self.assertEqual(self.inputs("\n  \n"), [])
