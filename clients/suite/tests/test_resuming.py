@@ -36,6 +36,7 @@ class Resuming(Case):
         wanted = expected(code)
         # One of them is wanted otherwise, so that a report has a difference.
         self.wrong = self.random.randrange(len(code))
+        self.verdict = "ended" if code[self.wrong][1] == "die" else "differs"
         parts = []
         for at, ((session, line, is_setup), value) in enumerate(zip(code, wanted)):
             info = session + (" {setup}" if is_setup else "")
@@ -61,7 +62,7 @@ class Resuming(Case):
             for _ in range(self.random.randint(0, 2)):
                 self.cut_off_somewhere("--resume")
             found = self.verdicts(self.path, "--resume")
-            self.assertEqual(found, ["differs" if at == self.wrong else "ok" for at in range(len(found))], self.read())
+            self.assertEqual(found, [self.verdict if at == self.wrong else "ok" for at in range(len(found))], self.read())
 
     def test_a_run_that_was_killed_while_its_worksheet_was_made(self) -> None:
         self.write(case("say 1", "1"))
