@@ -1,9 +1,10 @@
 """What is said of a worksheet beside a text that can't be opened: where it is, what that means, and what to do. Done, it is woven again."""
+import contextlib
 import os
 import subprocess
-from typing import List
+from typing import IO, Iterator, List
 
-from .support import PROGRAM, Case, fences
+from .support import PROGRAM, Case, command_words, environment, fences
 
 
 class Damaged(Case):
@@ -64,15 +65,37 @@ class Damaged(Case):
         os.unlink(self.second)
         self.assertEqual(self.weave(self.woven), self.woven)
 
-    def test_one_in_use(self) -> None:
+    @contextlib.contextmanager
+    def in_use(self) -> Iterator[IO[bytes]]:
+        """Another program has the worksheet until its input is closed."""
         with subprocess.Popen([PROGRAM, "live", self.sheet], stdin=subprocess.PIPE, stdout=subprocess.PIPE) as other:
             assert other.stdin and other.stdout
             other.stdin.write(b"show\n")
             other.stdin.flush()
             other.stdout.readline()
-            said = f"{self.sheet}: fault 35 InUse: it is in use by another program; `fuser {self.sheet}` says which: wait for its end, or end it"
-            self.assertEqual(self.refused(), said)
-            other.stdin.close()
+            try:
+                yield other.stdin
+            finally:
+                other.stdin.close()
+
+    def test_one_in_use(self) -> None:
+        """After a moment it is said that it is waited for, once, and after ten seconds it is refused."""
+        with self.in_use():
+            self.logged("a")
+            done = self.run_weave()
+        said = f"{self.sheet}: fault 35 InUse: it is in use by another program; `fuser {self.sheet}` says which: wait for its end, or end it"
+        self.assertEqual((done.status, done.output, self.read(), self.logged("a")), (1, "", self.woven, []))
+        self.assertEqual(done.errors, f"{self.text}: text.sheet is in use by another program; waiting\n{self.text}: {said}\n")
+
+    def test_one_in_use_for_a_while(self) -> None:
+        """It goes on when the other program has ended. One that ends at once isn't spoken of."""
+        for words in ([], ["--check"]):
+            with self.in_use() as held, subprocess.Popen(command_words(*words, self.text), stderr=subprocess.PIPE, env=environment()) as weave:
+                assert weave.stderr
+                line = weave.stderr.readline().decode()
+                held.close()
+                self.assertEqual((line, weave.stderr.read(), weave.wait()), (f"{self.text}: text.sheet is in use by another program; waiting\n", b"", 0))
+        self.assertEqual(self.run_weave().errors, "")
 
     def test_one_that_cannot_be_made(self) -> None:
         """A program that says why: what it says is shown with the path."""

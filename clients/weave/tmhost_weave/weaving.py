@@ -158,7 +158,7 @@ class Weave:
     def _evaluated(self, seconds: Optional[float]) -> Plan:
         if not os.path.lexists(self.sheet_path):
             make(self.sheet_path)
-        with opened(self.sheet_path) as sheet:
+        with opened(self.sheet_path, self.say) as sheet:
             self.plan = plan = Plan(self.document, sheet.sessions, sheet.fields)
             fit(sheet, plan)
             for name in plan.words:
@@ -196,7 +196,7 @@ class Weave:
         sessions: Dict[str, Session] = {}
         fields: List[Field] = []
         if self.document.fences and os.path.lexists(self.sheet_path):
-            with opened(self.sheet_path) as sheet:
+            with opened(self.sheet_path, self.say) as sheet:
                 sessions, fields = dict(sheet.sessions), sheet.fields
         self.fields = {field.id: field for field in fields}
         return Plan(self.document, sessions, fields)
