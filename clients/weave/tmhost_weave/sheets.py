@@ -6,11 +6,12 @@ import time
 from typing import Callable, Dict, List
 
 from tmhost import Died, Field, InUse, Refused, TmhostError, Worksheet, find_program
-from tmhost.advice import advised, reason_of_end
+from tmhost.advice import DAMAGED, NOT_A_SHEET, advised, reason_of_end
 
 from .plan import MARK, Plan, Wanted
 from tmhost_fences.troubles import Trouble
 
+UNREADABLE = (DAMAGED, NOT_A_SHEET)
 SECOND = ".alt"  # of a worksheet's second file
 PATIENCE = 10.0  # seconds for which a worksheet may be in use, since a program whose weave was killed needs a moment to end
 PAUSE = 0.05
@@ -70,7 +71,7 @@ def sync(folder: str) -> None:
 
 
 def opened(path: str, say: Callable[[str], None]) -> Worksheet:
-    """The worksheet at a path. One that is in use is waited for, which is said."""
+    """The worksheet at a path. One that is in use is waited for, which is said. Where it can't be read, that is raised as it is."""
     began = time.monotonic()
     is_said = False
     while True:
@@ -78,6 +79,8 @@ def opened(path: str, say: Callable[[str], None]) -> Worksheet:
             sheet = Worksheet(path)
             break
         except Died as died:
+            if died.number in UNREADABLE:
+                raise
             waited = time.monotonic() - began
             if not isinstance(died, InUse) or waited > PATIENCE:
                 raise Trouble(advised(died, path, AGAIN)) from None

@@ -6,12 +6,13 @@ import re
 import sys
 from typing import Dict, Iterator, List, Optional, Sequence, Set
 
-from tmhost import Died, Field, Session
+from tmhost import Died, Field, Session, Worksheet
 from tmhost.advice import advised
 from tmhost.starting import doubt, never_answers, why_it_ends
 
 from .answers import ANSWER, ERROR, FORMULA, NO_ANSWER, PICTURE, Piece, Shown
 from .cutting import LONGEST, cut
+from .damage import fault_of, free_name, refuse_others, set_aside
 from .document import ERRORS_FAIL, ERRORS_WANTED, FOLD, HIDE, TEXTLESS, Document
 from .evaluation import AT_START, UNTRIED, Evaluator
 from .files import new_name, put, put_in_folder, read
@@ -20,7 +21,7 @@ from .matter import Matter, matter_of
 from .page import Page
 from .pictures import Pictures
 from .plan import Plan, Wanted
-from .sheets import AGAIN, fit, has_no_space, make, opened, remove, sheet_path, shorten
+from .sheets import AGAIN, SECOND, fit, has_no_space, make, opened, remove, sheet_path, shorten
 from .targets import page_of, place_of
 from .telling import later_ones, reason_of, why_nothing
 from tmhost_fences.blocks import cut as cut_line
@@ -155,10 +156,28 @@ class Weave:
             are = "is" if kept == 1 else "are"
             raise Trouble(f"no space left for {os.path.basename(self.sheet_path)}; {kept} of {all} answers {are} kept: make room and weave again") from died
 
-    def _evaluated(self, seconds: Optional[float]) -> Plan:
-        if not os.path.lexists(self.sheet_path):
+    def opened_or_none(self, is_kept: bool) -> Optional[Worksheet]:
+        """The worksheet, where there is one that can be read. Another one is set aside, but where all is kept as it is."""
+        try:
+            return opened(self.sheet_path, self.say) if os.path.lexists(self.sheet_path) else None
+        except Died as died:
+            refuse_others(died, self.sheet_path)
+            cause = f"{os.path.basename(self.sheet_path)} can't be read ({fault_of(died, self.sheet_path)})"
+            if is_kept:
+                self.say(f"{cause}: a weave gives it the name {os.path.basename(free_name(self.sheet_path))}, and evaluates all again")
+            else:
+                new = os.path.basename(set_aside(self.sheet_path))
+                self.say(f"{cause}: it is {new} now, and all is evaluated again; where nobody needs that file, remove it and {new}{SECOND}")
+            return None
+
+    def opened_or_made(self) -> Worksheet:
+        sheet = self.opened_or_none(False)
+        if sheet is None:
             make(self.sheet_path)
-        with opened(self.sheet_path, self.say) as sheet:
+        return sheet or opened(self.sheet_path, self.say)
+
+    def _evaluated(self, seconds: Optional[float]) -> Plan:
+        with self.opened_or_made() as sheet:
             self.plan = plan = Plan(self.document, sheet.sessions, sheet.fields)
             fit(sheet, plan)
             for name in plan.words:
@@ -195,8 +214,9 @@ class Weave:
         """Takes what the worksheet has, without a change of it."""
         sessions: Dict[str, Session] = {}
         fields: List[Field] = []
-        if self.document.fences and os.path.lexists(self.sheet_path):
-            with opened(self.sheet_path, self.say) as sheet:
+        kept = self.opened_or_none(True) if self.document.fences else None
+        if kept:
+            with kept as sheet:
                 sessions, fields = dict(sheet.sessions), sheet.fields
         self.fields = {field.id: field for field in fields}
         return Plan(self.document, sessions, fields)
