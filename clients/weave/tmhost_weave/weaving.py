@@ -17,6 +17,7 @@ from .document import ERRORS_FAIL, ERRORS_WANTED, FOLD, HIDE, TEXTLESS, Document
 from .evaluation import AT_START, UNTRIED, Evaluator
 from .files import new_name, put, put_in_folder, read
 from .formulas import parts_of
+from .inline import codes_in, why_unevaluated
 from .matter import Matter, matter_of
 from .page import Page
 from .pictures import Pictures
@@ -113,6 +114,9 @@ class Weave:
         ignored = dict(self.document.ignored)
         for name, line in self.document.of_pages.items() if not self.page else ():
             ignored[name] = min(line, ignored.get(name, line))
+        codes = codes_in(self.document)
+        if codes:
+            self.say(why_unevaluated(codes))
         if ignored:
             self.say("options that are ignored: " + ", ".join(f"{name} (line {line})" for name, line in sorted(ignored.items())))
         if not self.document.fences:
