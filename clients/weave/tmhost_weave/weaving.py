@@ -23,7 +23,7 @@ from .page import Page
 from .pictures import Pictures
 from .plan import Plan, Wanted
 from .sheets import AGAIN, SECOND, fit, has_no_space, make, opened, remove, sheet_path, shorten
-from .targets import page_of, place_of
+from .targets import page_of, pages_of, place_of
 from .telling import later_ones, reason_of, why_nothing
 from tmhost_fences.blocks import cut as cut_line
 from tmhost_fences.targets import refuse_target
@@ -75,10 +75,11 @@ def first_other_line(old: bytes, new: bytes) -> int:
 class Weave:
     """`output` is where the woven text goes: None for the text itself, "-" for standard output. `folder` is where the worksheet lies, if not beside the text.
     `errors_fail` is whether an error is a failure where the options of its fence don't say; `longest` is how many bytes of an answer's text are shown. `page` is where a
-    page of it goes, a file or a folder, if anywhere."""
+    page of it goes, a file or a folder, if anywhere, and `texts` are all those that get one by the same call."""
 
     def __init__(
-        self, name: str, output: Optional[str], folder: Optional[str] = None, errors_fail: bool = False, longest: int = LONGEST, page: Optional[str] = None
+        self, name: str, output: Optional[str], folder: Optional[str] = None, errors_fail: bool = False, longest: int = LONGEST, page: Optional[str] = None,
+        texts: Sequence[str] = (),
     ) -> None:
         self.name, self.path = name, os.path.realpath(name)
         self.errors_fail, self.longest = errors_fail, longest
@@ -91,6 +92,7 @@ class Weave:
         if self.target and self.target != self.path:
             refuse_target("--output", self.target, (self.sheet_path, self.sheet_path + ".alt"))
         self.page = page_of(page, name) if page else None
+        self.pages = pages_of(page, texts) if page else {}
         kept = (self.path, self.target or "", self.sheet_path, self.sheet_path + ".alt")
         self.page_place = place_of(page, self.page, kept) if page and self.page else ""
         self.data = read(self.path)
@@ -281,7 +283,7 @@ class Weave:
             if self.page:
                 self.say(f"{self.page} isn't written, since the text isn't answered as it is meant")
             return not self.page
-        page = Page(self.document, shown, self.pictures.wanted, self.matter, os.path.dirname(self.path))
+        page = Page(self.document, shown, self.pictures.wanted, self.matter, os.path.dirname(self.path), self.pages)
         html = page.html(os.path.splitext(os.path.basename(self.path))[0])
         put_in_folder(self.page_place, html)
         self.say(f"{self.page} is written")
