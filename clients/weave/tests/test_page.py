@@ -176,6 +176,7 @@ class When(PageCase):
         for place, why in (
             (sheet, f"--html: {sheet} would be lost: name another file"), (self.place("link.html"), f"--html: {self.text} would be lost: name another file"),
             (self.place("file"), f"--html: {self.place('file')} is no folder, and its name doesn't end in .html"),
+            (self.place("file/"), f"--html: {self.place('file')}/ is no folder, and its name doesn't end in .html"),
             (self.place("no/page.html"), f"--html: there is no folder {self.place('no')}"), (self.place("no/pages/"), f"--html: there is no folder {self.place('no')}"),
         ):
             self.write(self.front("a") + fences([("a", "y")]))
@@ -202,6 +203,37 @@ class When(PageCase):
         ):
             done = self.run_weave(*words)
             self.assertEqual((done.status, done.errors.split("\n")[-2]), (2, f"tmhost-weave: error: {why}"))
+
+    def test_another_ending(self) -> None:
+        """It is no page, and most likely not meant as a folder: one that is there is taken, or one with a slash at its end."""
+        self.write(self.front("a") + fences([("a", "x")]))
+        for name, page in (("page.pdf", "page.html"), ("site-1.2", "site-1.html"), ("page.HTML.txt", "page.HTML.html")):
+            done = self.run_weave("--html", self.place(name), self.text)
+            ending = name[name.rindex(".") :]
+            said = f"{self.place(name)} ends in {ending}, and a page of --html in .html: name it {self.place(page)}, or a new folder {self.place(name)}/"
+            self.assertEqual((done.status, done.errors.split("\n")[-2]), (2, f"tmhost-weave: error: {said}"))
+        self.assertEqual(os.listdir(self.folder), ["text.md"])
+        for name in ("site-1.2/", "site-1.2", ".pages", "page.HTM"):
+            self.assertEqual(self.run_weave("--html", self.place(name), self.text).status, 0)
+        self.assertEqual((os.listdir(self.place("site-1.2")), os.listdir(self.place(".pages")), os.path.isfile(self.place("page.HTM"))), (["text.html"], ["text.html"], True))
+
+    def test_links_to_texts_of_the_call(self) -> None:
+        """They lead to the pages of these, wherever the texts lie; others stay as they are."""
+        os.mkdir(self.place("b"))
+        other = self.place("b/second part.Rmd")
+        links = {
+            "text.md": "text.html", "./text.md#sum": "text.html#sum", "<b/second part.Rmd#x%20y>": "second%20part.html#x%20y", "b/../b/second%20part.Rmd": "second%20part.html",
+            "#here": "#here", "b/none.md#x": "b/none.md#x", "https://a.b/text.md": "https://a.b/text.md", "text.md?raw": "text.md?raw", "a%00.md": "a%00.md",
+        }
+        self.write(self.front("a") + fences([("a", "x")]) + "".join(f"[l]({link}) " for link in links) + "and [r]\n\n[r]: text.md 'T'\n")
+        self.write(self.front("a") + fences([("a", "x")]) + "> ## [l](../text.md#sum)\n", other)
+        done = self.run_weave("--html", self.place("pages"), self.text, other)
+        self.assertEqual(done.status, 0, done.errors)
+        wanted = "".join(f'<a href="{link}">l</a> ' for link in links.values()) + 'and <a href="text.html" title="T">r</a>'
+        self.assertIn(f"<p>{wanted}</p>\n", self.body(self.place("pages/text.html")))
+        self.assertIn('><a href="text.html#sum">l</a></h2>', self.body(self.place("pages/second part.html")))
+        self.paged(self.read())
+        self.assertIn('<a href="page.html#sum">l</a> <a href="b/second%20part.Rmd#x%20y">l</a>', self.body())
 
 
 class WithoutTheProgram(unittest.TestCase):

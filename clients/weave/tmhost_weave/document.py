@@ -127,7 +127,8 @@ class Document:
         self.has_texts = False  # whether a fence of a session is text since it says so
         self.ignored: Dict[str, int] = {}  # options of fences of sessions that are, each with the line, from 1, of the first one
         self.of_pages: Dict[str, int] = {}  # the same of options that only pages obey
-        self._read(contents[front.lines :], front.lines)
+        self.first, self.body = front.lines, contents[front.lines :]  # the first line after the front matter, and the lines from there on, without their ends
+        self._read(self.body, self.first)
 
     def _read(self, body: List[str], first: int) -> None:
         tokens = tokens_of(body)

@@ -16,13 +16,15 @@ from .dollars import DISPLAY, TEX, add_to
 from .figures import STYLE as WIDTH_OF, WITH_TEXT, add_figures
 from .files import read
 from .headings import add_names, first_heading, text_of
+from .links import ELSEWHERE, lead_to_pages
 from .matter import Matter
 from .setting import Formula, typeset
 from .style import FOOT, HEAD, STYLE
 
 FORMATS = {"gif": "gif", "jpeg": "jpeg", "jpg": "jpeg", "png": "png", "svg": "svg+xml", "webp": "webp"}  # of pictures, by how their files' names end
-ELSEWHERE = re.compile(r"[A-Za-z][A-Za-z0-9+.-]*:|//")  # how the address of what is no file begins
 NOT_SEEN = re.compile("[\x00-\x08\x0b\x0c\x0e-\x1f\x7f\ud800-\udfff]")
+
+NO_PAGES: Mapping[str, str] = {}
 
 
 def is_codeless(options: Mapping[str, str], is_so_by_default: bool) -> bool:
@@ -56,9 +58,11 @@ def formula_of(token: Any) -> Formula:
 
 class Page:
     """`shown` is what stands after each fence of the document, `pictures` the data of those that it shows, by the names of their files. Pictures of the prose are
-    sought from a folder on. `reported` is what is to be said of the page, `is_whole` whether all is in it."""
+    sought from a folder on. `pages` are the names of pages of the same call, by the paths of their texts. `reported` is what is to be said of the page, `is_whole` whether all is in it."""
 
-    def __init__(self, document: Document, shown: Sequence[Shown], pictures: Mapping[str, bytes], matter: Matter, folder: str) -> None:
+    def __init__(
+        self, document: Document, shown: Sequence[Shown], pictures: Mapping[str, bytes], matter: Matter, folder: str, pages: Mapping[str, str] = NO_PAGES
+    ) -> None:
         bare = Document(document.bare)
         self.shown: Dict[int, Shown] = {fence.begin: one for fence, one in zip(bare.fences, shown)}
         self.first, self.matter, self.pictures, self.folder = matter.lines, matter, pictures, folder
@@ -70,6 +74,8 @@ class Page:
         self._title = self._title_of(matter.title)
         add_names(self._tokens)
         add_figures(self._tokens)
+        lead_to_pages(self._title, folder, pages)
+        lead_to_pages(self._tokens, folder, pages)
         self._formulas = typeset([*formulas_in(self._title), *formulas_in(self._tokens), *self._answered()])
         self.reported += self._formulas.reported
         self.is_whole &= self._formulas.is_set

@@ -58,7 +58,7 @@ def arguments(words: List[str]) -> argparse.Namespace:
     what.add_argument("--check", action="store_true", help="evaluate nothing, write nothing, and say what would change")
     what.add_argument("--test", action="store_true", help="evaluate all again, write nothing, and show which answers of TEXT are others now, as for a CI")
     parser.add_argument("--output", metavar="FILE", help="where the woven text goes, in place of TEXT (-: standard output)")
-    parser.add_argument("--html", metavar="FILE", help="where a page of TEXT goes, which stands alone: a name that ends in .html, or a folder")
+    parser.add_argument("--html", metavar="FILE", help="where a page of TEXT goes, which stands alone: a name that ends in .html, or a folder (FOLDER/, where a new one has a dot in its name)")
     parser.add_argument("--seconds", type=seconds, metavar="N", help="how long a field may take (no limit)")
     parser.add_argument(
         "--longest", type=bytes_shown, default=LONGEST, metavar="BYTES", help=f"how much of an answer's text is shown; the worksheet has it whole ({LONGEST:,})"
@@ -85,7 +85,7 @@ def run(given: argparse.Namespace, text: str) -> bool:
             with within(weave.start):
                 return weave.test(given.seconds)
     with locked(os.path.realpath(text)):
-        weave = Weave(text, given.output, None, given.no_errors, given.longest, given.html)
+        weave = Weave(text, given.output, None, given.no_errors, given.longest, given.html, given.texts)
         with within(weave.start):
             return weave.check() if given.check else weave.weave(given.seconds)
 

@@ -3,17 +3,19 @@ import contextlib
 import os
 import subprocess
 import time
-from typing import Dict, List
+from typing import Callable, Dict, List
 
 from tmhost import Died, Field, InUse, Refused, TmhostError, Worksheet, find_program
-from tmhost.advice import advised, reason_of_end
+from tmhost.advice import DAMAGED, NOT_A_SHEET, advised, reason_of_end
 
 from .plan import MARK, Plan, Wanted
 from tmhost_fences.troubles import Trouble
 
+UNREADABLE = (DAMAGED, NOT_A_SHEET)
 SECOND = ".alt"  # of a worksheet's second file
 PATIENCE = 10.0  # seconds for which a worksheet may be in use, since a program whose weave was killed needs a moment to end
 PAUSE = 0.05
+MOMENT = 0.5  # seconds after which it is said that it is in use
 AGAIN = "weave again"  # makes a worksheet again that was removed
 LARGE = 1_000_000  # bytes of a worksheet's file from which on it may be written again
 MOST_DEAD = 4  # times what its fields hold, which a file may have
@@ -68,15 +70,23 @@ def sync(folder: str) -> None:
         os.close(opened)
 
 
-def opened(path: str) -> Worksheet:
-    until = time.monotonic() + PATIENCE
+def opened(path: str, say: Callable[[str], None]) -> Worksheet:
+    """The worksheet at a path. One that is in use is waited for, which is said. Where it can't be read, that is raised as it is."""
+    began = time.monotonic()
+    is_said = False
     while True:
         try:
             sheet = Worksheet(path)
             break
         except Died as died:
-            if not isinstance(died, InUse) or time.monotonic() > until:
+            if died.number in UNREADABLE:
+                raise
+            waited = time.monotonic() - began
+            if not isinstance(died, InUse) or waited > PATIENCE:
                 raise Trouble(advised(died, path, AGAIN)) from None
+            if waited > MOMENT and not is_said:
+                is_said = True
+                say(f"{os.path.basename(path)} is in use by another program; waiting")
             time.sleep(PAUSE)
     if MARK.name not in sheet.sessions and (sheet.sessions or sheet.fields):
         sheet.close()

@@ -1,6 +1,6 @@
 """Where the page of a text is written, and which texts are in the way of one another."""
 import os
-from typing import Iterable, List, Optional
+from typing import Dict, Iterable, List, Optional
 
 from tmhost_fences.targets import refuse_target
 from tmhost_fences.troubles import Trouble
@@ -21,10 +21,23 @@ def page_of(given: str, text: str) -> str:
     return given if is_page(given) else os.path.join(os.path.normpath(given), os.path.splitext(os.path.basename(text))[0] + SUFFIXES[0])
 
 
+def pages_of(given: str, texts: Iterable[str]) -> Dict[str, str]:
+    """The names of the pages of texts, which are in one folder, by the paths of these texts."""
+    return {os.path.realpath(text): os.path.basename(page_of(given, text)) for text in texts}
+
+
+def other_ending(given: str) -> str:
+    """How a name ends that is neither one of a page nor that of a folder: of one that is there, or has a slash at its end."""
+    return "" if is_page(given) or os.path.isdir(given) else os.path.splitext(os.path.basename(given))[1]
+
+
 def why_unclear(given: str, texts: List[str]) -> Optional[str]:
     """Why pages of these texts can't go there."""
     if not given:
         return f"{OPTION} names no file"
+    ending = other_ending(given)
+    if ending:
+        return f"{given} ends in {ending}, and a page of {OPTION} in {SUFFIXES[0]}: name it {given[: -len(ending)]}{SUFFIXES[0]}, or a new folder {given}/"
     if len(texts) > 1 and is_page(given):
         return f"with several texts {OPTION} is a folder, and {given} is a page"
     twice = found_twice([os.path.realpath(page_of(given, text)) for text in texts])
@@ -46,7 +59,7 @@ def place_of(given: str, page: str, kept: Iterable[str]) -> str:
     is one to make it in."""
     place = os.path.realpath(page)
     folder = os.path.dirname(place)
-    if not is_page(given) and os.path.lexists(given) and not os.path.isdir(given):
+    if not is_page(given) and os.path.lexists(os.path.normpath(given)) and not os.path.isdir(given):
         raise Trouble(f"{OPTION}: {given} is no folder, and its name doesn't end in {SUFFIXES[0]}")
     if is_page(given) or os.path.isdir(folder):
         refuse_target(OPTION, place, kept)

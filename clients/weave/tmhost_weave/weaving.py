@@ -6,22 +6,24 @@ import re
 import sys
 from typing import Dict, Iterator, List, Optional, Sequence, Set
 
-from tmhost import Died, Field, Session
+from tmhost import Died, Field, Session, Worksheet
 from tmhost.advice import advised
 from tmhost.starting import doubt, never_answers, why_it_ends
 
 from .answers import ANSWER, ERROR, FORMULA, NO_ANSWER, PICTURE, Piece, Shown
 from .cutting import LONGEST, cut
+from .damage import fault_of, free_name, refuse_others, set_aside
 from .document import ERRORS_FAIL, ERRORS_WANTED, FOLD, HIDE, TEXTLESS, Document
 from .evaluation import AT_START, UNTRIED, Evaluator
 from .files import new_name, put, put_in_folder, read
 from .formulas import parts_of
+from .inline import codes_in, why_unevaluated
 from .matter import Matter, matter_of
 from .page import Page
 from .pictures import Pictures
 from .plan import Plan, Wanted
-from .sheets import AGAIN, fit, has_no_space, make, opened, remove, sheet_path, shorten
-from .targets import page_of, place_of
+from .sheets import AGAIN, SECOND, fit, has_no_space, make, opened, remove, sheet_path, shorten
+from .targets import page_of, pages_of, place_of
 from .telling import later_ones, reason_of, why_nothing
 from tmhost_fences.blocks import cut as cut_line
 from tmhost_fences.targets import refuse_target
@@ -73,10 +75,11 @@ def first_other_line(old: bytes, new: bytes) -> int:
 class Weave:
     """`output` is where the woven text goes: None for the text itself, "-" for standard output. `folder` is where the worksheet lies, if not beside the text.
     `errors_fail` is whether an error is a failure where the options of its fence don't say; `longest` is how many bytes of an answer's text are shown. `page` is where a
-    page of it goes, a file or a folder, if anywhere."""
+    page of it goes, a file or a folder, if anywhere, and `texts` are all those that get one by the same call."""
 
     def __init__(
-        self, name: str, output: Optional[str], folder: Optional[str] = None, errors_fail: bool = False, longest: int = LONGEST, page: Optional[str] = None
+        self, name: str, output: Optional[str], folder: Optional[str] = None, errors_fail: bool = False, longest: int = LONGEST, page: Optional[str] = None,
+        texts: Sequence[str] = (),
     ) -> None:
         self.name, self.path = name, os.path.realpath(name)
         self.errors_fail, self.longest = errors_fail, longest
@@ -89,6 +92,7 @@ class Weave:
         if self.target and self.target != self.path:
             refuse_target("--output", self.target, (self.sheet_path, self.sheet_path + ".alt"))
         self.page = page_of(page, name) if page else None
+        self.pages = pages_of(page, texts) if page else {}
         kept = (self.path, self.target or "", self.sheet_path, self.sheet_path + ".alt")
         self.page_place = place_of(page, self.page, kept) if page and self.page else ""
         self.data = read(self.path)
@@ -112,6 +116,9 @@ class Weave:
         ignored = dict(self.document.ignored)
         for name, line in self.document.of_pages.items() if not self.page else ():
             ignored[name] = min(line, ignored.get(name, line))
+        codes = codes_in(self.document)
+        if codes:
+            self.say(why_unevaluated(codes))
         if ignored:
             self.say("options that are ignored: " + ", ".join(f"{name} (line {line})" for name, line in sorted(ignored.items())))
         if not self.document.fences:
@@ -155,10 +162,28 @@ class Weave:
             are = "is" if kept == 1 else "are"
             raise Trouble(f"no space left for {os.path.basename(self.sheet_path)}; {kept} of {all} answers {are} kept: make room and weave again") from died
 
-    def _evaluated(self, seconds: Optional[float]) -> Plan:
-        if not os.path.lexists(self.sheet_path):
+    def opened_or_none(self, is_kept: bool) -> Optional[Worksheet]:
+        """The worksheet, where there is one that can be read. Another one is set aside, but where all is kept as it is."""
+        try:
+            return opened(self.sheet_path, self.say) if os.path.lexists(self.sheet_path) else None
+        except Died as died:
+            refuse_others(died, self.sheet_path)
+            cause = f"{os.path.basename(self.sheet_path)} can't be read ({fault_of(died, self.sheet_path)})"
+            if is_kept:
+                self.say(f"{cause}: a weave gives it the name {os.path.basename(free_name(self.sheet_path))}, and evaluates all again")
+            else:
+                new = os.path.basename(set_aside(self.sheet_path))
+                self.say(f"{cause}: it is {new} now, and all is evaluated again; where nobody needs that file, remove it and {new}{SECOND}")
+            return None
+
+    def opened_or_made(self) -> Worksheet:
+        sheet = self.opened_or_none(False)
+        if sheet is None:
             make(self.sheet_path)
-        with opened(self.sheet_path) as sheet:
+        return sheet or opened(self.sheet_path, self.say)
+
+    def _evaluated(self, seconds: Optional[float]) -> Plan:
+        with self.opened_or_made() as sheet:
             self.plan = plan = Plan(self.document, sheet.sessions, sheet.fields)
             fit(sheet, plan)
             for name in plan.words:
@@ -195,8 +220,9 @@ class Weave:
         """Takes what the worksheet has, without a change of it."""
         sessions: Dict[str, Session] = {}
         fields: List[Field] = []
-        if self.document.fences and os.path.lexists(self.sheet_path):
-            with opened(self.sheet_path) as sheet:
+        kept = self.opened_or_none(True) if self.document.fences else None
+        if kept:
+            with kept as sheet:
                 sessions, fields = dict(sheet.sessions), sheet.fields
         self.fields = {field.id: field for field in fields}
         return Plan(self.document, sessions, fields)
@@ -257,7 +283,7 @@ class Weave:
             if self.page:
                 self.say(f"{self.page} isn't written, since the text isn't answered as it is meant")
             return not self.page
-        page = Page(self.document, shown, self.pictures.wanted, self.matter, os.path.dirname(self.path))
+        page = Page(self.document, shown, self.pictures.wanted, self.matter, os.path.dirname(self.path), self.pages)
         html = page.html(os.path.splitext(os.path.basename(self.path))[0])
         put_in_folder(self.page_place, html)
         self.say(f"{self.page} is written")
