@@ -330,12 +330,14 @@ class Child:
             found.discard(self.signals.descriptor)
             if not found and time.monotonic() >= until:
                 return None
+        if self.output not in found:  # its last words may have come between the looks for them and for its end
+            found |= {descriptor for descriptor, _ in waiting.poll(0)}
         if 1 in found or self.output not in found:  # what it has started may keep its output open
             return b""
-        try:
-            return os.read(self.output, PIECE)
-        except OSError:  # a terminal whose other end was closed
-            return b""
+        for _ in range(2):  # a terminal tells its end to a read that has looked before the last words came; the next one finds them
+            with contextlib.suppress(OSError):
+                return os.read(self.output, PIECE)
+        return b""
 
     def drop_what_was_said(self) -> bool:
         """Drops what came before a line, as of a thread, which answers nothing; false where the interpreter has ended."""

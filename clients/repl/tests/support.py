@@ -100,6 +100,7 @@ class Terminal:
         """Its lines are typed, or come from the file `input`."""
         self.screen = Screen(columns)
         self.heard = b""
+        self.is_over = False
         self.pid, self.end = pty.fork()
         if self.pid == 0:
             heed_interrupts()
@@ -122,8 +123,9 @@ class Terminal:
             return True
         try:
             data = os.read(self.end, 65536)
-        except OSError:
-            return False
+        except OSError:  # the first may come to a read that had looked before the last words were there
+            is_first, self.is_over = not self.is_over, True
+            return is_first
         whole = self.heard + data
         self.heard = b""
         try:

@@ -10,6 +10,19 @@ import sys
 END_OF_INPUT = b"\x04"
 
 
+def read_to_end(ours):
+    """What a terminal is sent until nobody writes to it any more."""
+    sent = b""
+    while True:
+        try:
+            piece = os.read(ours, 65536)
+        except OSError:  # the system's word for that
+            return sent
+        if not piece:
+            return sent
+        sent += piece
+
+
 def sent_to_terminal(output, words, is_typed):
     """What a terminal was sent by a program, and the program's status."""
     ours, terminal = os.openpty()
@@ -19,15 +32,10 @@ def sent_to_terminal(output, words, is_typed):
         streams = [terminal if is_typed else nothing.fileno(), terminal if output == "-" else file.fileno(), terminal]
         child = os.posix_spawnp(words[0], words, os.environ, file_actions=[(os.POSIX_SPAWN_DUP2, stream, at) for at, stream in enumerate(streams)])
     os.close(terminal)
-    sent = b""
-    while True:
-        try:
-            piece = os.read(ours, 65536)
-        except OSError:  # the system's word for a terminal that nobody writes to any more
-            break
-        if not piece:
-            break
-        sent += piece
+    sent = read_to_end(ours)
+    # The first end may have come to a read that had looked for the last piece before that was there. From then on nobody writes, so that the
+    # second one is the end.
+    sent += read_to_end(ours)
     return sent, os.waitstatus_to_exitcode(os.waitpid(child, 0)[1])
 
 
