@@ -2,7 +2,6 @@
 import contextlib
 import dataclasses
 import hashlib
-import itertools
 import json
 import os
 import re
@@ -14,8 +13,9 @@ import time
 from typing import Callable, Dict, List, NamedTuple, Optional, Set, Tuple
 
 from tmhost import Answered, Banner, Cell, Died, Ended, Event, InUse, NoWorksheet, Partial, Refused, Stopped, Worksheet, find_program
-from tmhost.advice import DAMAGED, NOT_A_SHEET, advised, reason, reason_of_end
+from tmhost.advice import SECOND, advised, reason_of_end
 from tmhost.starting import LONGEST_TAIL, last_lines
+from tmhost_fences.aside import UNREADABLE, fault_of, set_aside
 from tmhost_fences.troubles import Trouble
 
 from .cases import Suite
@@ -24,12 +24,10 @@ from .shown import Shown, shown_of
 
 # The session of notes: what a run is of, and what came of each case. It is never started.
 NOTES, NEVER = "tmhost-suite", ("true",)
-SECOND = ".alt"  # of a worksheet's second file
 MOST = 9_500  # of the fields of a suite and a note for each case; a worksheet has 10,000, and long answers have notes, too
 PART = 250  # characters, each of which JSON writes in up to 12
 PATIENCE, PAUSE = 10.0, 0.05  # seconds; the program of a run that was killed needs a moment to end
 MOMENT = 0.3  # seconds; one that has a worksheet for longer runs its suite
-UNREADABLE = (DAMAGED, NOT_A_SHEET)
 DISK = "Disk"  # the faults of a disk that fails, or is full
 AGAIN = "run the suite again"  # makes a worksheet again that was removed
 ENDED = "ended"  # in the last note of a run that came to its end, so there is nothing in it to go on with
@@ -207,21 +205,6 @@ def why_ended(died: Died, path: str, needs: Optional[str]) -> str:
         return f"{path}: {fault_of(died, path)}: it can't be read, so {needs} can't go by it; run the suite without {needs}: that file is set aside then"
     room = no_room(os.path.dirname(path) or ".") if died.fault == DISK else None
     return room or advised(died, path, AGAIN)
-
-
-def fault_of(died: Died, path: str) -> str:
-    """Its number, its name and where it is."""
-    return reason(died, path).partition(": ")[0]
-
-
-def set_aside(path: str) -> str:
-    """Gives another name to a worksheet that can't be read, and to its second file, and says which: it may be no worksheet, and somebody's."""
-    names = (f"{path}.damaged{number or ''}" for number in itertools.count())
-    new = next(name for name in names if not os.path.lexists(name) and not os.path.lexists(name + SECOND))
-    for end in ("", SECOND):
-        with contextlib.suppress(FileNotFoundError):
-            os.rename(path + end, new + end)
-    return new
 
 
 def clear(path: str, of: str, say: Callable[[str], None]) -> None:

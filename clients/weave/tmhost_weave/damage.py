@@ -1,35 +1,17 @@
-"""A worksheet beside a text that can't be read: it gets another name, where it isn't known to be somebody else's, so that a text is woven all the same."""
+"""Whose a worksheet beside a text is that can't be read: one that is known to be somebody else's isn't set aside."""
 import contextlib
-import itertools
 import os
 import subprocess
 import tempfile
 
 from tmhost import Died, TmhostError, Worksheet, find_program
-from tmhost.advice import DAMAGED, advised, reason
+from tmhost.advice import DAMAGED, SECOND, advised
 from tmhost_fences.troubles import Trouble
 
 from .plan import MARK
-from .sheets import SECOND, sync
 
 HEAD = 65_536  # bytes of a file, in which the mark of a worksheet of weave stands
 BEFORE_MARK = 10  # bytes at the front of each worksheet
-
-
-def free_name(path: str) -> str:
-    """A name that is free, also for a second file."""
-    names = (f"{path}.damaged{number or ''}" for number in itertools.count())
-    return next(name for name in names if not os.path.lexists(name) and not os.path.lexists(name + SECOND))
-
-
-def set_aside(path: str) -> str:
-    """Gives a worksheet and its second file another name, and says which."""
-    new = free_name(path)
-    for end in ("", SECOND):
-        with contextlib.suppress(FileNotFoundError):
-            os.rename(path + end, new + end)
-    sync(os.path.dirname(path))
-    return new
 
 
 def refuse_others(died: Died, path: str) -> None:
@@ -37,11 +19,6 @@ def refuse_others(died: Died, path: str) -> None:
     is_of_others = has_other_sessions if died.number == DAMAGED else is_another_file
     if is_of_others(path):
         raise Trouble(f"{advised(died, path)}; it is none of tmhost-weave, so it stays as it is") from None
-
-
-def fault_of(died: Died, path: str) -> str:
-    """Its number, its name and where it is."""
-    return reason(died, path).partition(": ")[0]
 
 
 def has_other_sessions(path: str) -> bool:

@@ -5,7 +5,8 @@ import os
 import shutil
 from typing import Iterator
 
-from .sheets import remove, sync
+from .sheets import remove
+from tmhost_fences.aside import sync
 from tmhost_fences.troubles import Trouble
 
 LONGEST = 67_108_864  # bytes, as of a script of tmhost

@@ -6,13 +6,12 @@ import time
 from typing import Callable, Dict, List
 
 from tmhost import Died, Field, InUse, Refused, TmhostError, Worksheet, find_program
-from tmhost.advice import DAMAGED, NOT_A_SHEET, advised, reason_of_end
+from tmhost.advice import SECOND, advised, reason_of_end
 
 from .plan import MARK, Plan, Wanted
+from tmhost_fences.aside import UNREADABLE, sync
 from tmhost_fences.troubles import Trouble
 
-UNREADABLE = (DAMAGED, NOT_A_SHEET)
-SECOND = ".alt"  # of a worksheet's second file
 PATIENCE = 10.0  # seconds for which a worksheet may be in use, since a program whose weave was killed needs a moment to end
 PAUSE = 0.05
 MOMENT = 0.5  # seconds after which it is said that it is in use
@@ -59,15 +58,6 @@ def make_at(new: str, path: str) -> None:
     if made.returncode != 0:
         said = made.stderr.decode("utf-8", "backslashreplace").strip()
         raise Trouble(f"{path} can't be made: {reason_of_end(said, made.returncode, path)}")
-
-
-def sync(folder: str) -> None:
-    """Brings the names in a folder onto the disk."""
-    opened = os.open(folder or ".", os.O_RDONLY)
-    try:
-        os.fsync(opened)
-    finally:
-        os.close(opened)
 
 
 def opened(path: str, say: Callable[[str], None]) -> Worksheet:

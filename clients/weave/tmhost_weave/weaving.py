@@ -7,12 +7,12 @@ import sys
 from typing import Dict, Iterator, List, Optional, Sequence, Set
 
 from tmhost import Died, Field, Session, Worksheet
-from tmhost.advice import advised
+from tmhost.advice import SECOND, advised
 from tmhost.starting import doubt, never_answers, why_it_ends
 
 from .answers import ANSWER, ERROR, FORMULA, NO_ANSWER, PICTURE, Piece, Shown
 from .cutting import LONGEST, cut
-from .damage import fault_of, free_name, refuse_others, set_aside
+from .damage import refuse_others
 from .document import ERRORS_FAIL, ERRORS_WANTED, FOLD, HIDE, TEXTLESS, Document
 from .evaluation import AT_START, UNTRIED, Evaluator
 from .files import new_name, put, put_in_folder, read
@@ -22,9 +22,10 @@ from .matter import Matter, matter_of
 from .page import Page
 from .pictures import Pictures
 from .plan import Plan, Wanted
-from .sheets import AGAIN, SECOND, fit, has_no_space, make, opened, remove, sheet_path, shorten
+from .sheets import AGAIN, fit, has_no_space, make, opened, remove, sheet_path, shorten
 from .targets import page_of, pages_of, place_of
 from .telling import later_ones, reason_of, why_nothing
+from tmhost_fences.aside import fault_of, free_name, set_aside
 from tmhost_fences.blocks import cut as cut_line
 from tmhost_fences.targets import refuse_target
 from tmhost_fences.troubles import Trouble
