@@ -143,4 +143,9 @@ runs_then_crashes hosts one R first sources sink agenda disk answer model over c
 runs_then_crashes hosts one R first sources sink agenda disk answer model (ran_over reported it) choice (Some opened) left =
     was_cut reported disk left.state (bytes_on left.crash) it left.at left.named left.image
     (λ e. opens_after_crash hosts one R first (program_parts disk sources sink agenda) reported it model choice.moment left.state left.at left.crash left.keeps_model left.image opened left.opens e)
-runs_then_crashes hosts one R first sources sink agenda disk answer model (not_opened why was) choice (Some opened) left = not_begun why disk was
+runs_then_crashes hosts one R first sources sink agenda disk answer model (not_opened why was) choice (Some opened) left =
+    not_begun why disk left.state (bytes_on left.crash) was left.at left.named left.image
+    (λ e restarted since.
+    let same : bytes_on left.crash ≡ bytes_on first.disk = opening_leaves (bytes_on first.disk) first.disk disk (bytes_on left.crash) restarted (was.looks model)
+    (record { moment = choice.moment; state = left.state; at = left.at; since = since; leaves = left.image }) in
+    left.opens left.keeps_model first.disk.room e.ops e.image e.acts e.allowed e.found (subst (λ (i : Image). Uses first.disk.room e.image e.acts i) (sym same) e.came))

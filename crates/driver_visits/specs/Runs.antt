@@ -94,4 +94,8 @@ pub data RunsThenCrashes {A C K D : Type 0} (R : Rules A C K) (first : ProgramPa
       → AtMoment choice.moment disk.history state → after ≡ image_named choice.fill choice.grown state → IsImage state after
       → ((e : EarlierUses first.disk) → OpensAfterCrash R first (program_parts disk sources sink agenda) answer it choice.moment after opened e)
       → RunsThenCrashes R first sources sink agenda choice opened answer
-  not_begun : (why : OpenCause) (disk : DiskView) → WasNotOpened first (program_parts disk sources sink agenda) why → RunsThenCrashes R first sources sink agenda choice opened (Err (fault.Open why))
+  -- It didn't open the worksheet. A crash while it tried to leaves what was there, on a disk that was restarted, and that is what is opened.
+  not_begun : (why : OpenCause) (disk : DiskView) (state : DiskState) (after : Image) → WasNotOpened first (program_parts disk sources sink agenda) why
+      → AtMoment choice.moment disk.history state → after ≡ image_named choice.fill choice.grown state → IsImage state after
+      → ((e : EarlierUses first.disk) → IsRestarted (bytes_on first.disk) first.disk → length first.disk.history.past ≤ choice.moment
+      → OpensSo first.disk.room e.ops e.image after e.acts opened) → RunsThenCrashes R first sources sink agenda choice opened (Err (fault.Open why))

@@ -47,7 +47,10 @@ fn open_crashed(
 /// opens what is left: each write since the last sync is there, or not, or torn, as the choice says.
 ///
 /// The disk keeps the model by proof, so the contract rests on no assumption of disks: what opens is the worksheet after a prefix of the
-/// run's events, with all that had been printed by then.
+/// run's events, with all that had been printed by then; where the run didn't open it, what was there. Of a crash while a run opens its
+/// worksheet the contract of `run_then_open` says what is left.
+///
+/// No clause says when nothing is opened: the field `opened` does.
 pub fn run_then_crash<S: Sources, K: Sink, A: Agenda>(
     alloc: Global,
     disk: MemoryDisk,
