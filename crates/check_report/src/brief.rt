@@ -3,7 +3,7 @@ ghost use Rattle.std.specs.Prelude.{◌≡◌, ◌++◌, ◌∷◌, [], IfSome, 
 ghost use Rattle.std.specs.List.{flat_map};
 ghost use Rattle.std.specs.Io.KnownBytes.{Appends};
 ghost use Rattle.block_tree.specs.View.{tree_of};
-ghost use Rattle.sheet_text.specs.Blocks.{framed, is_bare, sign};
+ghost use Rattle.sheet_text.specs.Blocks.{framed, sign};
 ghost use Rattle.sheet_text.specs.Escape.{on_line};
 ghost use Rattle.sheet_text.specs.Texts.{in_lines, no_answer_line};
 ghost use Rattle.sheet_text.specs.Texts as printed;
@@ -13,7 +13,7 @@ use crate::writing::write_bytes;
 use block_tree::{Item, Node, Tag};
 use sha2::{Digest, Sha256};
 use sheet_notebook::picture_text;
-use sheet_text::{WriteFault, hex_digit, write_line, write_lines};
+use sheet_text::{WriteFault, hex_digit, is_bare_tag, write_line, write_lines};
 use std::alloc::Global;
 use std::io::Write;
 use worksheet::Answer;
@@ -89,17 +89,6 @@ fn write_picture<W: Write>(tag: &Tag, text: &[u8], out: &mut W) -> Result<(), Wr
     write_size_and_sum(text, out)?;
     write_bytes(b"}", out)?;
     Ok(())
-}
-
-/// Whether the tag isn't shown.
-fn is_bare_tag(tag: &Tag) -> bool
-    ensures { result ≡ is_bare tag.now.channel tag.now.name }
-{
-    if tag.channel {
-        tag.name.as_slice() == b"output".as_slice()
-    } else {
-        tag.name.as_slice() == b"verbatim".as_slice()
-    }
 }
 
 #[tactic(auto, using(crate::proofs::Brevity::block_steps))]

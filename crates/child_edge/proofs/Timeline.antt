@@ -17,7 +17,7 @@ use Rattle.session_engine.specs.Crash.{LeftAmong, Moments}
 use Rattle.session_engine.proofs.Playing.{EitherSheet, either_sheet}
 use Rattle.child_edge.specs.Kept.{HoldsSheet, Kept}
 use Rattle.host_events.specs.declared.reply.Reply.{Reply}
-use Rattle.child_edge.specs.Faithful.{Relation, At, at, Entry, Entries, Follows, FirstOf, Taken, Turns, Served, ServedUpTo, Waited, due_after, hearing}
+use Rattle.child_edge.specs.Faithful.{Relation, At, at, Entry, Entries, Follows, FirstOf, Taken, Rounds, Served, ServedUpTo, Waited, due_after, hearing}
 use Rattle.child_edge.specs.Broken.{WaitSoFar, WaitStopped}
 use Rattle.child_edge.specs.Seats.{waits}
 use Rattle.child_calls.specs.declared.seat.Seat.{Seat}
@@ -60,29 +60,29 @@ module _ {C : Type 0} (R : Relation C) where
       → Taken (hearing R listens) left seat s bs t → Goes s.world s.disk bs t.world t.disk
   taken-goes listens left seat s bs t p = follows-goes (at s.world p.1 s.disk) (Some (Child seat.name seat.life p.0)) bs left t p.3
 
-  pub turns-goes : (most n : ℕ) (s : At C) (bs : List Entry) (t : At C) → Turns R most n s bs t → Goes s.world s.disk bs t.world t.disk
-  turns-goes most zero s bs t p =
+  pub rounds-goes : (most n : ℕ) (s : At C) (bs : List Entry) (t : At C) → Rounds R most n s bs t → Goes s.world s.disk bs t.world t.disk
+  rounds-goes most zero s bs t p =
       subst (λ (l : List Entry). Goes s.world s.disk l t.world t.disk) (sym p.0) (ap (λ (x : At C). x.world) p.1, ap (λ (x : At C). x.disk) p.1)
-  turns-goes most (suc n) s bs t p =
+  rounds-goes most (suc n) s bs t p =
       subst (λ (l : List Entry). Goes s.world s.disk l t.world t.disk) (sym p.5)
-      (goes_on_by s.world s.disk p.1 p.0.world p.0.disk p.2 t.world t.disk (turns-goes most n s p.1 p.0 p.3)
+      (goes_on_by s.world s.disk p.1 p.0.world p.0.disk p.2 t.world t.disk (rounds-goes most n s p.1 p.0 p.3)
       (first-goes (Taken (hearing R _) None) (λ x. taken-goes _ None x) (waits p.0.world) _ p.0 p.2 t p.4))
 
   pub so-far-goes : (most : ℕ) (s : At C) (bs : List Entry) (t : At C) → WaitSoFar R most s bs t → Goes s.world s.disk bs t.world t.disk
   so-far-goes most s bs t p =
       subst (λ (l : List Entry). Goes s.world s.disk l t.world t.disk) (sym p.entries)
-      (goes_on_by s.world s.disk p.before p.mid.world p.mid.disk p.last t.world t.disk (turns-goes most p.whole s p.before p.mid p.turns)
+      (goes_on_by s.world s.disk p.before p.mid.world p.mid.disk p.last t.world t.disk (rounds-goes most p.whole s p.before p.mid p.rounds)
       (first-goes (Taken (hearing R _) None) (λ x. taken-goes _ None x) (waits p.mid.world) p.part.whole p.mid p.last t p.part.are_done))
 
   pub stopped-goes : (most : ℕ) (s : At C) (bs : List Entry) (e : Event) (t : At C) → WaitStopped R most s bs e t → Goes s.world s.disk bs t.world t.disk
   stopped-goes most s bs e t p =
       let q = p.part in
-      let turn : Goes p.mid.world p.mid.disk p.last t.world t.disk = subst (λ (l : List Entry). Goes p.mid.world p.mid.disk l t.world t.disk) (sym q.entries)
+      let round : Goes p.mid.world p.mid.disk p.last t.world t.disk = subst (λ (l : List Entry). Goes p.mid.world p.mid.disk l t.world t.disk) (sym q.entries)
       (goes_on_by p.mid.world p.mid.disk q.before q.mid.world q.mid.disk q.last t.world t.disk
       (first-goes (Taken (hearing R _) None) (λ x. taken-goes _ None x) (waits p.mid.world) q.whole p.mid q.before q.mid q.are_done)
       (taken-goes _ (Some e) q.seat q.mid q.last t q.broken)) in
       subst (λ (l : List Entry). Goes s.world s.disk l t.world t.disk) (sym p.entries)
-      (goes_on_by s.world s.disk p.before p.mid.world p.mid.disk p.last t.world t.disk (turns-goes most p.whole s p.before p.mid p.turns) turn)
+      (goes_on_by s.world s.disk p.before p.mid.world p.mid.disk p.last t.world t.disk (rounds-goes most p.whole s p.before p.mid p.rounds) round)
 
 -- what a timeline leaves
 
@@ -180,7 +180,7 @@ module _ {C : Type 0} (R : Relation C) where
   served_broke s e = broke_from s (λ x. ServedUpTo R x e) (λ bs left t p. follows-goes R s (Some e) bs (Some left) t p)
 
   pub waited_from : (most : ℕ) (s : At C) (h : HostView) (c : C) (replies : List Reply) → HoldsSheet s.world s.disk → Ran (Waited R most s) [] h c replies → RanFrom s (Waited R most) h c replies
-  waited_from most s = ran_from s (Waited R most) (λ bs t p. turns-goes R most p.0 s bs t p.1)
+  waited_from most s = ran_from s (Waited R most) (λ bs t p. rounds-goes R most p.0 s bs t p.1)
 
   pub so_far_from : (most : ℕ) (s : At C) (h : HostView) (c : C) (replies : List Reply) → HoldsSheet s.world s.disk → Ran (WaitSoFar R most s) [] h c replies → RanFrom s (WaitSoFar R most) h c replies
   so_far_from most s = ran_from s (WaitSoFar R most) (λ bs t p. so-far-goes R most s bs t p)

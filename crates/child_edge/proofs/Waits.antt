@@ -1,4 +1,4 @@
--- A turn goes on by one life, and a wait by one turn.
+-- A round goes on by one life, and a wait by one round.
 use Rattle.std.proofs.Common.{◌≡◌, ℕ, ◌+◌, Bool, List, ◌++◌, Some, refl, ap, sym, ◌∙◌, append_assoc, add-one, slice_get, nat_lt}
 use Rattle.host_events.specs.declared.reply.Reply.{Reply}
 use Rattle.host_events.specs.declared.outcome.HostFault.{HostFault}
@@ -6,7 +6,7 @@ use Rattle.child_edge.specs.Seats.{waits}
 use Rattle.child_edge.specs.declared.serving.EdgeCause.{EdgeCause}
 use Rattle.child_edge.specs.declared.serving.EdgeCause.TheVariants as cause
 use Rattle.child_edge.specs.Edge.{ByCause}
-use Rattle.child_edge.specs.Faithful.{Relation, At, Entry, FirstOf, OneTurn, Turns, hearing}
+use Rattle.child_edge.specs.Faithful.{Relation, At, Entry, FirstOf, OneRound, Rounds, hearing}
 use Rattle.child_edge.specs.Reported.{reported}
 use Rattle.child_edge.proofs.Chains.{reported-append}
 
@@ -14,9 +14,9 @@ pub FirstOf-more : {A S B : Type 0} (P : A → S → List B → S → Type 0) (x
     → FirstOf P xs k s before mid → slice_get xs k ≡ Some x → P x mid last t → FirstOf P xs (k + 1) s (before ++ last) t
 FirstOf-more P xs k s before mid x last t h e p = rw add-one (x, mid, before, last, e, h, p, refl)
 
-pub Turns-more : {C : Type 0} (R : Relation C) (most n : ℕ) (s : At C) (before : List Entry) (mid : At C) (listens : Bool) (last : List Entry) (t : At C)
-    → Turns R most n s before mid → listens ≡ nat_lt n most → OneTurn (hearing R listens) (waits mid.world) mid last t → Turns R most (n + 1) s (before ++ last) t
-Turns-more R most n s before mid listens last t h e p = rw add-one (mid, before, last, h, rw e at p, refl)
+pub Rounds-more : {C : Type 0} (R : Relation C) (most n : ℕ) (s : At C) (before : List Entry) (mid : At C) (listens : Bool) (last : List Entry) (t : At C)
+    → Rounds R most n s before mid → listens ≡ nat_lt n most → OneRound (hearing R listens) (waits mid.world) mid last t → Rounds R most (n + 1) s (before ++ last) t
+Rounds-more R most n s before mid listens last t h e p = rw add-one (mid, before, last, h, rw e at p, refl)
 
 pub reported-join : (all old new : List Reply) (bs cs : List Entry) → old ≡ all ++ reported bs → new ≡ old ++ reported cs → new ≡ all ++ reported (bs ++ cs)
 reported-join all old new bs cs h k =

@@ -3,9 +3,9 @@ use Rattle.std.specs.Prelude.{◌≡◌, ℕ, ◌≤◌, List, ◌++◌, Some, N
 use Rattle.host_events.specs.declared.event.Event.{Event}
 use Rattle.child_calls.specs.declared.seat.Seat.{Seat}
 use Rattle.child_edge.specs.Seats.{waits}
-use Rattle.child_edge.specs.Faithful.{Relation, At, Entry, FirstOf, Taken, Turns, Hearing, hearing}
+use Rattle.child_edge.specs.Faithful.{Relation, At, Entry, FirstOf, Taken, Rounds, Hearing, hearing}
 
--- A turn of these lives up to where this event was due: the lives that were done, and the one that was not.
+-- A round of these lives up to where this event was due: the lives that were done, and the one that was not.
 pub record TurnStopped {C : Type 0} (h : Hearing C) (seats : List Seat) (s : At C) (bs : List Entry) (e : Event) (t : At C) : Type 0 where
   pub whole : ℕ
   pub mid : At C
@@ -23,24 +23,24 @@ pub record TurnSoFar {C : Type 0} (h : Hearing C) (seats : List Seat) (s : At C)
   pub fits : whole ≤ length seats
   pub are_done : FirstOf (Taken h None) seats whole s bs t
 
--- Turns, and a part of the next one. Each receive that gave something has its event here.
+-- Rounds, and a part of the next one. Each receive that gave something has its event here.
 pub record WaitSoFar {C : Type 0} (R : Relation C) (most : ℕ) (s : At C) (bs : List Entry) (t : At C) : Type 0 where
   pub whole : ℕ
   pub fits : whole ≤ most
   pub mid : At C
   pub before : List Entry
   pub last : List Entry
-  pub turns : Turns R most whole s before mid
+  pub rounds : Rounds R most whole s before mid
   pub part : TurnSoFar (hearing R (nat_lt whole most)) (waits mid.world) mid last t
   pub entries : bs ≡ before ++ last
 
--- Turns, and the next one up to where this event was due.
+-- Rounds, and the next one up to where this event was due.
 pub record WaitStopped {C : Type 0} (R : Relation C) (most : ℕ) (s : At C) (bs : List Entry) (e : Event) (t : At C) : Type 0 where
   pub whole : ℕ
   pub fits : whole ≤ most
   pub mid : At C
   pub before : List Entry
   pub last : List Entry
-  pub turns : Turns R most whole s before mid
+  pub rounds : Rounds R most whole s before mid
   pub part : TurnStopped (hearing R (nat_lt whole most)) (waits mid.world) mid last e t
   pub entries : bs ≡ before ++ last

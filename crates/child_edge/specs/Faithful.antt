@@ -112,12 +112,12 @@ Gave fault = Unit {0}
 Gave done = ⊥
 Gave no_memory = ⊥
 
--- The event of a life in a turn: what a receive gave in a turn that listens, and `Stalled` in another.
+-- The event of a life in a round: what a receive gave in a round that listens, and `Stalled` in another.
 abbrev pub Hears : {C : Type 0} → Relation C → Bool → Seat → C → ChildEvent → C → Type 0
 Hears R true seat c event d = (a : Answer) × Gave a × R c (receive seat.name seat.life) a d × (event ≡ event_of a)
 Hears R false seat c event d = (event ≡ child.Stalled) × (d ≡ c)
 
--- How lives are heard in a turn: what the children do at a call, and whether the turn listens.
+-- How lives are heard in a round: what the children do at a call, and whether the round listens.
 pub record Hearing (C : Type 0) : Type 1 where
   pub after : Relation C
   pub listens : Bool
@@ -134,17 +134,17 @@ Taken {C = C} h left seat s bs t =
 abbrev pub TakenUpTo : {C : Type 0} → Hearing C → Seat → At C → List Entry → Event → At C → Type 0
 TakenUpTo h seat s bs left t = Taken h (Some left) seat s bs t
 
--- a turn: each of these lives once, in order
-abbrev pub OneTurn : {C : Type 0} → Hearing C → List Seat → At C → List Entry → At C → Type 0
-OneTurn h seats s bs t = EachOf (Taken h None) seats s bs t
+-- a round: each of these lives once, in order
+abbrev pub OneRound : {C : Type 0} → Hearing C → List Seat → At C → List Entry → At C → Type 0
+OneRound h seats s bs t = EachOf (Taken h None) seats s bs t
 
--- So many turns, each of the lives in which an item waits as it begins. The first `most` listen; after them these lives count as
+-- So many rounds, each of the lives in which an item waits as it begins. The first `most` listen; after them these lives count as
 -- stalled.
-abbrev pub Turns : {C : Type 0} → Relation C → ℕ → ℕ → At C → List Entry → At C → Type 0
-Turns R most zero s bs t = (bs ≡ []) × (t ≡ s)
-Turns {C = C} R most (suc n) s bs t =
-    (mid : At C) × (before : List Entry) × (last : List Entry) × Turns R most n s before mid × OneTurn (hearing R (nat_lt n most)) (waits mid.world) mid last t × (bs ≡ before ++ last)
+abbrev pub Rounds : {C : Type 0} → Relation C → ℕ → ℕ → At C → List Entry → At C → Type 0
+Rounds R most zero s bs t = (bs ≡ []) × (t ≡ s)
+Rounds {C = C} R most (suc n) s bs t =
+    (mid : At C) × (before : List Entry) × (last : List Entry) × Rounds R most n s before mid × OneRound (hearing R (nat_lt n most)) (waits mid.world) mid last t × (bs ≡ before ++ last)
 
--- A wait: turns until no item waits, or all that listen and one in which those that still wait stall.
+-- A wait: rounds until no item waits, or all that listen and one in which those that still wait stall.
 abbrev pub Waited : {C : Type 0} → Relation C → ℕ → At C → List Entry → At C → Type 0
-Waited R most s bs t = (n : ℕ) × Turns R most n s bs t × (((waits t.world ≡ []) × (n ≤ most)) ⊎ (n ≡ suc most))
+Waited R most s bs t = (n : ℕ) × Rounds R most n s bs t × (((waits t.world ≡ []) × (n ≤ most)) ⊎ (n ≡ suc most))

@@ -16,7 +16,7 @@ pub use busy::{is_idle, waiting as waiting_lives};
 pub use edit_groups::{EditsFault, serve_edits};
 pub use interrupting::{Interrupted, interrupt};
 pub use joined::{GaveJoined, serve_joining};
-pub use serving::{EdgeCause, EdgeFault, MOST_EVENTS, MOST_TURNS, carry_out, serve, step, wait};
+pub use serving::{EdgeCause, EdgeFault, MOST_EVENTS, MOST_ROUNDS, carry_out, serve, step, wait};
 pub use stopping::stop_all;
 pub use together::{GaveTogether, MOST_TOGETHER, TogetherFault, receive_event, serve_together};
 pub use waiting::Waiting;

@@ -5,7 +5,7 @@ ghost use Rattle.session_engine.specs.World.{World};
 ghost use Rattle.session_engine.specs.Host.{IsHost, Took};
 ghost use Rattle.child_edge.specs.Edge.{BrokeOff, ByCause, ClosedOrNoMemory, FailsClosed, HeardOne, Ran, Stopped, TellsClosed};
 ghost use Rattle.child_edge.specs.Moments.{BrokeFrom, RanFrom};
-ghost use Rattle.child_edge.specs.Limits.{most_turns};
+ghost use Rattle.child_edge.specs.Limits.{most_rounds};
 ghost use Rattle.child_calls.specs.Calls.{Answer};
 ghost use Rattle.child_calls.specs.Answers.{sent};
 ghost use Rattle.child_edge.specs.Faithful.{at, Entry, Entries, Carried, call_of, due_of, due_after, fault_of, Served, ServedUpTo, TakenUpTo, hearing};
@@ -20,8 +20,8 @@ use host_events::{ChildEvent, Command, Effect, Event, HostFault, Outcome, Reply}
 use session_engine::Host;
 use std::alloc::{AllocError, Global};
 
-/// The turns of one wait in which children are received from.
-pub const MOST_TURNS: u32 = 100_000;
+/// The rounds of one wait in which children are received from.
+pub const MOST_ROUNDS: u32 = 100_000;
 
 /// The most events that come of one: it, the fault of its effect, and the fault of that one's effect.
 pub const MOST_EVENTS: usize = 3;
@@ -224,7 +224,7 @@ pub fn serve<D: Disk, C: Children>(
     }
 }
 
-/// The event of a life in a turn: what its child gives in a turn that listens, and `Stalled` in
+/// The event of a life in a round: what its child gives in a round that listens, and `Stalled` in
 /// another.
 pub(crate) fn hear<C: Children>(
     children: &mut C,
@@ -245,7 +245,7 @@ pub(crate) fn hear<C: Children>(
     }
 }
 
-/// One life's part of a turn.
+/// One life's part of a round.
 pub(crate) fn take<D: Disk, C: Children>(
     host: &mut Host<D>,
     children: &mut C,
@@ -286,9 +286,9 @@ pub(crate) fn take<D: Disk, C: Children>(
 
 /// Waits until no item waits for an answer.
 ///
-/// A turn is one receive from the child of each life in which an item waits, in the order in which
+/// A round is one receive from the child of each life in which an item waits, in the order in which
 /// their sessions were made; what it gives is taken at once, with its effect and all that comes of
-/// that, before the next child is received from. After `MOST_TURNS` turns each life in which an item
+/// that, before the next child is received from. After `MOST_ROUNDS` rounds each life in which an item
 /// still waits counts as stalled. The count begins again with each call. The run is faithful, as that
 /// of `serve`, at every moment too, and the replies are its events' but `Nothing`.
 ///
@@ -301,12 +301,12 @@ pub fn wait<D: Disk, C: Children>(
 ) -> Result<Vec<Reply>, EdgeFault>
     ensures same { SameDisk host.old.store.disk host.new.store.disk }
     ensures ok { (w : World) → IsHost host.old w → IfOk result (λ replies.
-        RanFrom (at w children.old host.old.store.disk) (Waited C.after most_turns)
+        RanFrom (at w children.old host.old.store.disk) (Waited C.after most_rounds)
         host.new children.new replies.items) }
     ensures err { (w : World) → IsHost host.old w → IfErr result (λ fault. ByCause fault.cause
-        (BrokeFrom (at w children.old host.old.store.disk) (WaitStopped C.after most_turns)
+        (BrokeFrom (at w children.old host.old.store.disk) (WaitStopped C.after most_rounds)
         host.new children.new fault.replies.items)
-        (RanFrom (at w children.old host.old.store.disk) (WaitSoFar C.after most_turns)
+        (RanFrom (at w children.old host.old.store.disk) (WaitSoFar C.after most_rounds)
         host.new children.new fault.replies.items)) }
 
     // On a closed host there is no reply, and it stays as it is. Where the host reported that it is

@@ -4,13 +4,13 @@ ghost use Rattle.disk_model.specs.Disk.{SameDisk};
 ghost use Rattle.session_engine.specs.World.{World};
 ghost use Rattle.session_engine.specs.Host.{IsHost};
 ghost use Rattle.child_edge.specs.Edge.{BrokeOff, ByCause, ClosedOrNoMemory, HeardOne, Ran};
-ghost use Rattle.child_edge.specs.Limits.{most_turns};
+ghost use Rattle.child_edge.specs.Limits.{most_rounds};
 ghost use Rattle.child_edge.specs.Faithful.{At, at, Entry, Waited};
 ghost use Rattle.child_edge.specs.Broken.{WaitStopped};
 ghost use Rattle.child_edge.specs.Steps.{Came, IsBegun, left_of};
 
 use crate::busy::waiting;
-use crate::serving::{EdgeCause, MOST_TURNS, take};
+use crate::serving::{EdgeCause, MOST_ROUNDS, take};
 use child_calls::{Children, Seat};
 use disk_model::Disk;
 use host_events::Reply;
@@ -21,7 +21,7 @@ use std::alloc::{AllocError, Global};
 /// one is received from. Between two steps the host is as after any call: the disk has what it returned.
 #[derive(Drop)]
 pub struct Waiting {
-    // How many turns are over, the lives of this one, and which of them comes next.
+    // How many rounds are over, the lives of this one, and which of them comes next.
     pub(crate) whole: u32,
     pub(crate) seats: Vec<Seat>,
     pub(crate) place: usize,
@@ -41,7 +41,7 @@ impl Waiting {
         })
     }
 
-    /// Takes the next life of the turn.
+    /// Takes the next life of the round.
     fn hear_next<D: Disk, C: Children>(
         &mut self,
         host: &mut Host<D>,
@@ -57,7 +57,7 @@ impl Waiting {
         ensures err { (s : At C) (bs : List Entry) (w : World) → IsHost host.old w
             → Came C.after self.old s bs (at w children.old host.old.store.disk)
             → IfErr result (λ cause. ByCause cause
-            (BrokeOff (λ cs e t. WaitStopped C.after most_turns s (bs ++ cs) e t)
+            (BrokeOff (λ cs e t. WaitStopped C.after most_rounds s (bs ++ cs) e t)
             replies.old.items host.new children.new replies.new.items)
             ((host.new ≡ host.old) × (children.new ≡ children.old)
             × (replies.new.items ≡ replies.old.items))) }
@@ -68,10 +68,10 @@ impl Waiting {
             → (host.new ≡ host.old) × (replies.new.items ≡ replies.old.items) }
         ensures heard { host.old.closed ≡ true → MatchResult result
             (λ done. children.new ≡ children.old)
-            (HeardOne C.after (nat_lt self.old.whole most_turns) children.old children.new) }
+            (HeardOne C.after (nat_lt self.old.whole most_rounds) children.old children.new) }
     {
         let seat = self.seats[self.place];
-        match take(host, children, self.whole < MOST_TURNS, seat, replies) {
+        match take(host, children, self.whole < MOST_ROUNDS, seat, replies) {
             Ok(()) => {
                 self.place += 1;
                 Ok(())
@@ -101,13 +101,13 @@ impl Waiting {
         ensures over { (s : At C) (bs : List Entry) (w : World) → IsHost host.old w
             → Came C.after self.old s bs (at w children.old host.old.store.disk)
             → IfOk result (λ more. more ≡ false
-            → Waited C.after most_turns s bs (at w children.old host.old.store.disk)
+            → Waited C.after most_rounds s bs (at w children.old host.old.store.disk)
             × (host.new ≡ host.old)
             × (children.new ≡ children.old) × (replies.new.items ≡ replies.old.items)) }
         ensures err { (s : At C) (bs : List Entry) (w : World) → IsHost host.old w
             → Came C.after self.old s bs (at w children.old host.old.store.disk)
             → IfErr result (λ cause. ByCause cause
-            (BrokeOff (λ cs e t. WaitStopped C.after most_turns s (bs ++ cs) e t)
+            (BrokeOff (λ cs e t. WaitStopped C.after most_rounds s (bs ++ cs) e t)
             replies.old.items host.new children.new replies.new.items)
             (Came C.after self.new s bs (at w children.old host.old.store.disk)
             × (host.new ≡ host.old) × (children.new ≡ children.old)
@@ -132,7 +132,7 @@ impl Waiting {
         if self.seats.is_empty() {
             return Ok(false);
         }
-        if self.whole >= MOST_TURNS {
+        if self.whole >= MOST_ROUNDS {
             return Ok(false);
         }
         let Ok(seats) = waiting(alloc, host) else {

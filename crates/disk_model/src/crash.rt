@@ -5,7 +5,7 @@ ghost use Rattle.disk_model.specs.Crash.{laid, image_of};
 ghost use Rattle.disk_model.specs.Calls.{settled, history_after, step};
 
 use crate::Area;
-use crate::memory::{Call, put};
+use crate::memory::{Call, overwrite};
 use std::alloc::{AllocError, Global};
 
 /// What the range of a write holds that no later sync of its area has brought onto the disk.
@@ -62,7 +62,7 @@ impl Drawing {
         if at > self.content.len() {
             return Ok(());
         }
-        put(&mut self.content, at, bytes)?;
+        overwrite(&mut self.content, at, bytes)?;
         lay(&mut self.image, at, bytes, self.fill)
     }
 

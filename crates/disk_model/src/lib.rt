@@ -13,7 +13,7 @@ mod memory;
 pub use crash::{Choice, Fill};
 pub use disk::{Area, Disk, DiskFault, GREATEST_ROOM};
 pub use fuse::{FuseDisk, FuseMode};
-pub use memory::MemoryDisk;
+pub use memory::{MemoryDisk, overwrite};
 
 /// A growth was refused. Nothing has changed.
 pub use std::alloc::AllocError as OutOfMemory;

@@ -131,8 +131,9 @@ impl MemoryDisk {
     }
 }
 
-// Puts bytes over what is there, and past the end. At an error nothing has changed.
-pub(crate) fn put(content: &mut Vec<u8>, offset: usize, bytes: &[u8]) -> Result<(), AllocError>
+/// Writes bytes over what is there, from this offset on, and past the end. At an error, where memory is
+/// refused, nothing has changed.
+pub fn overwrite(content: &mut Vec<u8>, offset: usize, bytes: &[u8]) -> Result<(), AllocError>
     requires inside { offset ≤ length content.old.items }
     requires fits { offset + length bytes.now < 2 ^ 64 }
     ensures ok { OnOk result (content.new.items ≡ overwritten content.old.items offset bytes.now) }
@@ -165,7 +166,7 @@ fn write(
 {
     let copy = Vec::from_slice(alloc, bytes)?;
     calls.reserve(1)?;
-    put(content, offset as usize, bytes)?;
+    overwrite(content, offset as usize, bytes)?;
     match calls.push(Call::Write(area, offset, copy)) {
         Ok(()) => Ok(()),
         Err(_) => unreachable!(),

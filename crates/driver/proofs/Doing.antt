@@ -29,7 +29,7 @@ use Rattle.tellings.specs.Voice.{CutShort, IsWithheld}
 use Rattle.tellings.specs.declared.note.Note.{Note}
 use Rattle.offline_programs.specs.declared.fault.RunFault.{RunFault}
 use Rattle.offline_programs.specs.declared.fault.RunFault.TheVariants as fault
-use Rattle.driver.specs.declared.turn.Turn.{Turn}
+use Rattle.driver.specs.declared.action.Action.{Action}
 use Rattle.driver.specs.Reports.{TurnCame, Report, interrupt_came, printed_text}
 use Rattle.driver.specs.Items.{Item, after_fault, ask, chose, halt, hear, heard, heed, heeded, interrupt, interrupted, items_by, join, notes, print, print_fault, printed, printed_fault, printing, rewrite, rewrote, stall, stalled, stalls, take, took, watch, watched}
 use Rattle.driver.specs.Hearing.{HeardReady}
@@ -70,7 +70,7 @@ module _ {A C K : Type 0} (R : Rules A C K) (n : ℕ) (rest : List Item) (w : Wo
 
 module _ {A C K : Type 0} (R : Rules A C K) (n : ℕ) (w : World) (h : HostView) (stands : IsHost h w) where
   -- the agenda was asked, and what it asked for was done
-  pub did_ask : (c : C) (k : K) (a b : A) (now : ℕ) (t : Turn) (r : Result Bool RunFault) (last : ℕ × Parts A C K) → R.sources.clock c now → R.agenda.says a w now (Ok t) b
+  pub did_ask : (c : C) (k : K) (a b : A) (now : ℕ) (t : Action) (r : Result Bool RunFault) (last : ℕ × Parts A C K) → R.sources.clock c now → R.agenda.says a w now (Ok t) b
       → DidSteps R (seen (n + 1) w (parts h c k b)) (items_by t) (left_by_answer again) r last → DidSteps R (seen n w (parts h c k a)) (ask ∷ []) (left_by_answer again) r last
   did_ask c k a b now t r last clock says d =
       did_more R (seen n w (parts h c k a)) (ask ∷ []) (chose t) (items_by t) (seen (n + 1) w (parts h c k b)) (left_by_answer again) r last (asks now t b clock says) d

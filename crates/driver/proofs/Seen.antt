@@ -10,7 +10,7 @@ use Rattle.session_engine.specs.Joining.{JoinsAfter, ToBeTaken, alone, asking, w
 use Rattle.child_edge.specs.Faithful.{Entry}
 use Rattle.tellings.specs.declared.note.Note.{Note}
 use Rattle.offline_programs.specs.declared.fault.RunFault.{RunFault}
-use Rattle.driver.specs.declared.turn.Turn.{Turn}
+use Rattle.driver.specs.declared.action.Action.{Action}
 use Rattle.driver.specs.Reports.{TurnCame, printed_text}
 use Rattle.driver.specs.Items.{Item, RunStep}
 use Rattle.driver.specs.Place.{AgendaRules, RunPlace, Rules, Tries, TriesInVain, rules, sink_rules}
@@ -19,7 +19,7 @@ use Rattle.driver.specs.Steps as step
 use Rattle.driver.specs.Over.{Over, ProgramParts, not_opened, ran_over}
 
 module _ {A B C K L : Type 0} (R : Rules A C K) (S : AgendaRules B) (written : L → Option (List ℕ)) (tried : L → DiskView → List ℕ → Bool → L → Type 0) (f : A → B) (g : K → L)
-    (says : (a : A) (w : World) (n : ℕ) (r : Result Turn RunFault) (b : A) → R.agenda.says a w n r b → S.says (f a) w n r (f b))
+    (says : (a : A) (w : World) (n : ℕ) (r : Result Action RunFault) (b : A) → R.agenda.says a w n r b → S.says (f a) w n r (f b))
     (woken : (a : A) (w : Woken) (b : A) → R.agenda.woken a w b → S.woken (f a) w (f b))
     (heeds : (a : A) (w : World) (n : ℕ) (c : TurnCame) (note : Option Note) (b : A) → R.agenda.heeds a w n c note b → S.heeds (f a) w n c note (f b))
     (joins : (a : A) (w : World) (first : Option ℕ) (more : List Event) (b : A) → R.agenda.joins a w first more b → S.joins (f a) w first more (f b))

@@ -20,8 +20,8 @@ use Rattle.tellings.specs.declared.note.Note.{Note}
 use Rattle.tellings.specs.Voice.{Voice, IsWithheld}
 use Rattle.offline_programs.specs.declared.fault.RunFault.{RunFault}
 use Rattle.offline_programs.specs.declared.fault.RunFault.TheVariants as fault
-use Rattle.driver.specs.declared.turn.Turn.{Turn}
-use Rattle.driver.specs.declared.turn.Turn.TheVariants as turn
+use Rattle.driver.specs.declared.action.Action.{Action}
+use Rattle.driver.specs.declared.action.Action.TheVariants as action
 use Rattle.driver.specs.Items.{Item, RunStep, after_fault, ask, entries_of, items_by, notes, printing_joined, print_fault, halt, taking_due}
 use Rattle.child_edge.specs.Faithful.{due_of}
 use Rattle.driver.specs.Items as item
@@ -75,7 +75,7 @@ IsDoing item.ask = Unit {0}
 IsDoing (item.watch q) = Unit {0}
 IsDoing (item.hear seat most) = Unit {0}
 IsDoing (item.take from events) = Unit {0}
-IsDoing (item.take_whole first events) = Unit {0}
+IsDoing (item.take_transaction first events) = Unit {0}
 IsDoing (item.take_edits up_to events) = Unit {0}
 IsDoing (item.take_alone e) = Unit {0}
 IsDoing (item.carry o) = Unit {0}
@@ -97,20 +97,20 @@ doing_on : (xs ys : List Item) → AreDoing xs → AreDoing ys → AreDoing (xs 
 doing_on [] ys all more = more
 doing_on (x ∷ xs) ys all more = (all.0, doing_on xs ys all.1 more)
 
-turn_doing : (t : Turn) → AreDoing (items_by t)
-turn_doing turn.End = tt
-turn_doing turn.Nothing = (tt, tt)
-turn_doing (turn.Watch input patience) = (tt, (tt, tt))
-turn_doing (turn.Hear seat most) = (tt, (tt, tt))
-turn_doing (turn.Lines first events) = (tt, (tt, tt))
-turn_doing (turn.Whole first events) = (tt, (tt, tt))
-turn_doing (turn.Edits up_to events) = (tt, (tt, tt))
-turn_doing (turn.Alone e) = (tt, (tt, tt))
-turn_doing (turn.Receive seat) = (tt, (tt, tt))
-turn_doing (turn.Checkpoint line) = (tt, (tt, tt))
-turn_doing turn.Stall = (tt, (tt, tt))
-turn_doing (turn.Interrupt name) = (tt, (tt, tt))
-turn_doing (turn.Show s) = (tt, (tt, (tt, tt)))
+action_doing : (t : Action) → AreDoing (items_by t)
+action_doing action.End = tt
+action_doing action.Nothing = (tt, tt)
+action_doing (action.Watch input patience) = (tt, (tt, tt))
+action_doing (action.Hear seat most) = (tt, (tt, tt))
+action_doing (action.Lines first events) = (tt, (tt, tt))
+action_doing (action.Transaction first events) = (tt, (tt, tt))
+action_doing (action.Edits up_to events) = (tt, (tt, tt))
+action_doing (action.Alone e) = (tt, (tt, tt))
+action_doing (action.Receive seat) = (tt, (tt, tt))
+action_doing (action.Checkpoint line) = (tt, (tt, tt))
+action_doing action.Stall = (tt, (tt, tt))
+action_doing (action.Interrupt name) = (tt, (tt, tt))
+action_doing (action.Show s) = (tt, (tt, (tt, tt)))
 
 notes_doing : (n : Option Note) → AreDoing (notes n)
 notes_doing None = tt
@@ -136,7 +136,7 @@ left_doing (item.ask ∷ rest) a b all = tt
 left_doing (item.watch q ∷ rest) a b all = tt
 left_doing (item.hear seat most ∷ rest) a b all = tt
 left_doing (item.take from events ∷ rest) a b all = tt
-left_doing (item.take_whole first events ∷ rest) a b all = tt
+left_doing (item.take_transaction first events ∷ rest) a b all = tt
 left_doing (item.take_edits up_to events ∷ rest) a b all = tt
 left_doing (item.take_alone e ∷ rest) a b all = tt
 left_doing (item.carry o ∷ rest) a b all = tt
@@ -156,7 +156,7 @@ left_since (item.ask ∷ rest) a b c same t = tt
 left_since (item.watch q ∷ rest) a b c same t = tt
 left_since (item.hear seat most ∷ rest) a b c same t = tt
 left_since (item.take from events ∷ rest) a b c same t = tt
-left_since (item.take_whole first events ∷ rest) a b c same t = tt
+left_since (item.take_transaction first events ∷ rest) a b c same t = tt
 left_since (item.take_edits up_to events ∷ rest) a b c same t = tt
 left_since (item.take_alone e ∷ rest) a b c same t = tt
 left_since (item.carry o ∷ rest) a b c same t = tt
@@ -200,7 +200,7 @@ module _ {A C K : Type 0} (R : Rules A C K) (own : (a : A) (w : World) (n : ℕ)
   fails_true p q i entries why (step.unprinted s w k is tries) = withheld_true R.sink.voice why p.disk p.disk is
 
   step_doing : (p mid : RunPlace A C K) (todo next : List Item) (s : RunStep) → Goes R p todo s next mid → AreDoing todo → AreDoing next ⊎ Broke R p s next mid
-  step_doing p mid todo next s (step.asks now t a clock said) all = inl (turn_doing t)
+  step_doing p mid todo next s (step.asks now t a clock said) all = inl (action_doing t)
   step_doing p mid todo next s (step.watches x w c a rest wakes reported) all = inl all.1
   step_doing p mid todo next s (step.hears seat most events c rest h) all = inl (tt, all.1)
   step_doing p mid todo next s (step.takes from events outcomes followed w c d rest t) all = inl (tt, (tt, (tt, all.1)))

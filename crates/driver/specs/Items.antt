@@ -15,8 +15,8 @@ use Rattle.arrivals.specs.declared.sources.Woken.{Woken}
 use Rattle.tellings.specs.declared.note.Note.{Note}
 use Rattle.offline_programs.specs.declared.fault.RunFault.{RunFault}
 use Rattle.offline_programs.specs.declared.fault.RunFault.TheVariants as fault
-use Rattle.driver.specs.declared.turn.Turn.{Turn}
-use Rattle.driver.specs.declared.turn.Turn.TheVariants as turn
+use Rattle.driver.specs.declared.action.Action.{Action}
+use Rattle.driver.specs.declared.action.Action.TheVariants as action
 use Rattle.driver.specs.Reports.{TurnCame, Report, came}
 use Rattle.driver.specs.Reports as report
 use Rattle.driver.specs.declared.report.Show.TheVariants as show
@@ -32,7 +32,7 @@ pub data Item : Type 0 where
   -- these events are taken as one group: those of lives, or of the lines from this one on
   take : Option ℕ → List Event → Item
   -- these commands of the lines from this one on are taken as one group, all of them or none
-  take_whole : ℕ → List Event → Item
+  take_transaction : ℕ → List Event → Item
   -- these commands, which only change the worksheet, are taken as one group: all of them, or up to the first that is refused
   take_edits : Bool → List Event → Item
   -- this event is taken by itself
@@ -60,7 +60,7 @@ pub data Item : Type 0 where
 
 -- what was done
 pub data RunStep : Type 0 where
-  chose : Turn → RunStep
+  chose : Action → RunStep
   watched : Asked → Woken → RunStep
   heard : List Event → RunStep
   took : List Event → List Outcome → List Followed → RunStep
@@ -80,20 +80,20 @@ pub data RunStep : Type 0 where
   printed_fault : RunFault → Bool → RunStep
 
 -- what the agenda asked for, and then it is asked again; at the end it is not
-abbrev pub items_by : Turn → List Item
-items_by turn.End = []
-items_by turn.Nothing = ask ∷ []
-items_by (turn.Watch input patience) = watch (asked input patience) ∷ ask ∷ []
-items_by (turn.Hear seat most) = hear seat most ∷ ask ∷ []
-items_by (turn.Lines first events) = take (Some first) events.items ∷ ask ∷ []
-items_by (turn.Whole first edits) = take_whole first edits ∷ ask ∷ []
-items_by (turn.Edits up_to edits) = take_edits up_to edits ∷ ask ∷ []
-items_by (turn.Alone event) = take_alone event ∷ ask ∷ []
-items_by (turn.Receive seat) = receive seat ∷ ask ∷ []
-items_by (turn.Checkpoint line) = rewrite line ∷ ask ∷ []
-items_by turn.Stall = stall ∷ ask ∷ []
-items_by (turn.Interrupt name) = interrupt name ∷ ask ∷ []
-items_by (turn.Show s) = print (report.shown s) ∷ heed (came [] []) ∷ ask ∷ []
+abbrev pub items_by : Action → List Item
+items_by action.End = []
+items_by action.Nothing = ask ∷ []
+items_by (action.Watch input patience) = watch (asked input patience) ∷ ask ∷ []
+items_by (action.Hear seat most) = hear seat most ∷ ask ∷ []
+items_by (action.Lines first events) = take (Some first) events.items ∷ ask ∷ []
+items_by (action.Transaction first edits) = take_transaction first edits ∷ ask ∷ []
+items_by (action.Edits up_to edits) = take_edits up_to edits ∷ ask ∷ []
+items_by (action.Alone event) = take_alone event ∷ ask ∷ []
+items_by (action.Receive seat) = receive seat ∷ ask ∷ []
+items_by (action.Checkpoint line) = rewrite line ∷ ask ∷ []
+items_by action.Stall = stall ∷ ask ∷ []
+items_by (action.Interrupt name) = interrupt name ∷ ask ∷ []
+items_by (action.Show s) = print (report.shown s) ∷ heed (came [] []) ∷ ask ∷ []
 
 -- what events gave that were taken as one group is printed, lines by their numbers, and then what followed; the agenda heeds it
 abbrev pub group_of : Option ℕ → List Outcome → Report

@@ -10,7 +10,7 @@ use Rattle.arrivals.specs.declared.sources.Woken.{Woken}
 use Rattle.tellings.specs.Voice.{CutShort, Voice}
 use Rattle.tellings.specs.declared.note.Note.{Note}
 use Rattle.offline_programs.specs.declared.fault.RunFault.{RunFault}
-use Rattle.driver.specs.declared.turn.Turn.{Turn}
+use Rattle.driver.specs.declared.action.Action.{Action}
 use Rattle.driver.specs.Reports.{TurnCame}
 
 -- How often the agenda was asked, the agenda, where events led to, the disk of the host, the sources, and the sink.
@@ -38,15 +38,15 @@ pub record SinkRules (K : Type 0) : Type 1 where
   pub written : K → Option (List ℕ)
   pub tried : K → DiskView → List ℕ → Bool → K → Type 0
 
--- What an agenda may do from turn to turn: what it says is next, that it is given whose turn it is, and what it makes of what came.
-pub record TurnRules (A : Type 0) : Type 1 where
-  pub says : A → World → ℕ → Result Turn RunFault → A → Type 0
+-- What an agenda may do from action to action: what it says is next, that it is given whose turn it is, and what it makes of what came.
+pub record ActionRules (A : Type 0) : Type 1 where
+  pub says : A → World → ℕ → Result Action RunFault → A → Type 0
   pub woken : A → Woken → A → Type 0
   pub heeds : A → World → ℕ → TurnCame → Option Note → A → Type 0
 
 -- What an agenda may do: all of that, and which events it lets join those of lives that were taken and aren't durable yet.
 pub record AgendaRules (A : Type 0) : Type 1 where
-  pub says : A → World → ℕ → Result Turn RunFault → A → Type 0
+  pub says : A → World → ℕ → Result Action RunFault → A → Type 0
   pub woken : A → Woken → A → Type 0
   pub heeds : A → World → ℕ → TurnCame → Option Note → A → Type 0
   pub joins : JoinRule A
@@ -56,12 +56,12 @@ pub record Rules (A C K : Type 0) : Type 1 where
   pub sources : SourceRules C
   pub sink : SinkRules K
 
-abbrev pub turn_rules : {A : Type 0} → (A → World → ℕ → Result Turn RunFault → A → Type 0) → (A → Woken → A → Type 0)
-    → (A → World → ℕ → TurnCame → Option Note → A → Type 0) → TurnRules A
-turn_rules says woken heeds = record { says = says; woken = woken; heeds = heeds }
+abbrev pub action_rules : {A : Type 0} → (A → World → ℕ → Result Action RunFault → A → Type 0) → (A → Woken → A → Type 0)
+    → (A → World → ℕ → TurnCame → Option Note → A → Type 0) → ActionRules A
+action_rules says woken heeds = record { says = says; woken = woken; heeds = heeds }
 
-abbrev pub agenda_rules : {A : Type 0} → TurnRules A → JoinRule A → AgendaRules A
-agenda_rules turns joins = record { says = turns.says; woken = turns.woken; heeds = turns.heeds; joins = joins }
+abbrev pub agenda_rules : {A : Type 0} → ActionRules A → JoinRule A → AgendaRules A
+agenda_rules actions joins = record { says = actions.says; woken = actions.woken; heeds = actions.heeds; joins = joins }
 
 abbrev pub source_rules : {C : Type 0} → Relation C → (C → Asked → Option Woken → C → Type 0) → (C → ℕ → Type 0) → SourceRules C
 source_rules after wakes clock = record { after = after; wakes = wakes; clock = clock }

@@ -37,7 +37,7 @@ printed_text V w (shown (show.Sheet line)) = V.sheet line w
 printed_text V w (shown (show.Field line id)) = V.field line id w
 printed_text V w (shown (show.Export line format)) = V.exported line format (sheet_in w)
 
--- What came of a turn: the outcomes of its events, the replies to what followed, and what came of an interrupt, where it was one.
+-- What came of an action: the outcomes of its events, the replies to what followed, and what came of an interrupt, where it was one.
 pub record TurnCame : Type 0 where
   pub outcomes : List Outcome
   pub replies : List Reply

@@ -36,10 +36,10 @@ use Rattle.tellings.specs.Voice.{IsWithheld}
 use Rattle.tellings.specs.declared.note.Note.{Note}
 use Rattle.offline_programs.specs.declared.fault.RunFault.{RunFault}
 use Rattle.offline_programs.specs.declared.fault.RunFault.TheVariants as fault
-use Rattle.driver.specs.declared.turn.Turn.{Turn}
+use Rattle.driver.specs.declared.action.Action.{Action}
 use Rattle.driver.specs.Reports.{TurnCame, Report, interrupt_came, lines, printed_text}
 use Rattle.driver.specs.Place.{RunPlace, Rules, Tries, TriesInVain, run_at}
-use Rattle.driver.specs.Items.{Item, RunStep, after_fault, ask, broke, carried, carry, chose, print_fault, printed_fault, halt, hear, heard, heed, heeded, interrupt, interrupted, items_by, join, notes, refused_whole, rewrite, rewrote, stall, stalled, stalls, take, print, printing, printing_joined, printed, receive, received, take_alone, take_edits, taking_due, took, took_alone, watch, watched, take_whole}
+use Rattle.driver.specs.Items.{Item, RunStep, after_fault, ask, broke, carried, carry, chose, print_fault, printed_fault, halt, hear, heard, heed, heeded, interrupt, interrupted, items_by, join, notes, refused_whole, rewrite, rewrote, stall, stalled, stalls, take, print, printing, printing_joined, printed, receive, received, take_alone, take_edits, taking_due, took, took_alone, watch, watched, take_transaction}
 use Rattle.driver.specs.Hearing.{HeardReady}
 
 -- the most events that are taken as one group
@@ -96,10 +96,10 @@ pub data Fails {A C K : Type 0} (R : Rules A C K) (p : RunPlace A C K) : Item �
       → Fails R p (join events) entries (fault.Host f) (record p { agenda = a; world = w; sources = c; disk = h.store.disk })
   -- The same of commands that are taken all or not at all. Where the disk failed, all were taken, of which none was refused.
   too_many_whole : (first : ℕ) (events : List Event) → (most_together < length events) ⊎ (2 ^ 64 ≤ first + most_together + 1)
-      → Fails R p (take_whole first events) [] fault.InputTooLong p
-  untaken_whole : (first : ℕ) (events : List Event) → Fails R p (take_whole first events) [] fault.OutOfMemory p
+      → Fails R p (take_transaction first events) [] fault.InputTooLong p
+  untaken_whole : (first : ℕ) (events : List Event) → Fails R p (take_transaction first events) [] fault.OutOfMemory p
   lost_whole : (first : ℕ) (events : List Event) (h : HostView) → LostWhole p.world events p.disk h
-      → Fails R p (take_whole first events) [] (fault.Host hosts.Disk) (record p { disk = h.store.disk })
+      → Fails R p (take_transaction first events) [] (fault.Host hosts.Disk) (record p { disk = h.store.disk })
   -- The same of commands that only change the worksheet: of none of them anything is printed.
   untaken_edits : (up_to : Bool) (events : List Event) → Fails R p (take_edits up_to events) [] fault.OutOfMemory p
   lost_edits : (up_to : Bool) (events : List Event) (h : HostView) → LostEdits up_to p.world events p.disk h
@@ -123,7 +123,7 @@ pub data Fails {A C K : Type 0} (R : Rules A C K) (p : RunPlace A C K) : Item �
 
 -- One step.
 pub data Goes {A C K : Type 0} (R : Rules A C K) (p : RunPlace A C K) : List Item → RunStep → List Item → RunPlace A C K → Type 0 where
-  asks : (now : ℕ) (t : Turn) (a : A) → R.sources.clock p.sources now → R.agenda.says p.agenda p.world now (Ok t) a
+  asks : (now : ℕ) (t : Action) (a : A) → R.sources.clock p.sources now → R.agenda.says p.agenda p.world now (Ok t) a
       → Goes R p (ask ∷ []) (chose t) (items_by t) (record p { asked = p.asked + 1; agenda = a })
   watches : (q : Asked) (w : Woken) (c : C) (a : A) (rest : List Item) → R.sources.wakes p.sources q (Some w) c → R.agenda.woken p.agenda w a
       → Goes R p (watch q ∷ rest) (watched q w) rest (record p { agenda = a; sources = c })
@@ -141,11 +141,11 @@ pub data Goes {A C K : Type 0} (R : Rules A C K) (p : RunPlace A C K) : List Ite
       (record p { agenda = a; world = w; sources = c; disk = d })
   -- All commands of a whole group were accepted: all that they give is durable at once, and none has an effect.
   takes_whole : (first : ℕ) (events : List Event) (outcomes : List Outcome) (w : World) (d : DiskView) (rest : List Item) → AllTaken p.world events outcomes w p.disk d
-      → Goes R p (take_whole first events ∷ rest) (took events outcomes []) (printing (Some first) outcomes [] ++ rest) (record p { world = w; disk = d })
+      → Goes R p (take_transaction first events ∷ rest) (took events outcomes []) (printing (Some first) outcomes [] ++ rest) (record p { world = w; disk = d })
   -- One of them would be refused, after those before it: none is taken, and that refusal is printed, by the number of its line.
   refuses_whole : (first : ℕ) (events : List Event) (before : List Outcome) (last : Outcome) (rest : List Item)
       → RefusedAt p.world events before last
-      → Goes R p (take_whole first events ∷ rest) (refused_whole events last) (printing (Some (first + length before)) (last ∷ []) [] ++ rest) p
+      → Goes R p (take_transaction first events ∷ rest) (refused_whole events last) (printing (Some (first + length before)) (last ∷ []) [] ++ rest) p
   -- The first of these commands were taken: all that they give is durable at once, and none has an effect.
   takes_edits : (up_to : Bool) (events done : List Event) (outcomes : List Outcome) (w : World) (d : DiskView) (rest : List Item)
       → TakesFirst up_to events done outcomes → EditsKept p.world done outcomes w p.disk d

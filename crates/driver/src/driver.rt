@@ -13,13 +13,13 @@ ghost use Rattle.driver.specs.Runs.{DidSteps, again, again_by, left_at_end, left
 ghost use Rattle.child_edge.specs.Seats.{waits};
 ghost use Rattle.arrivals.specs.Watching.{asked};
 
+use crate::action::Action;
 use crate::agenda::Agenda;
 use crate::faults::{gate_fault, is_output};
 use crate::hearing::hear_ready;
 use crate::report::{Came, Show};
 use crate::sink::Sink;
 use crate::stalls::stalled_events;
-use crate::turn::Turn;
 use arrivals::{Input, Sources};
 use child_calls::Seat;
 use child_edge::{GaveTogether, MOST_TOGETHER, interrupt, serve_together, waiting_lives};
@@ -290,27 +290,27 @@ impl<D: Disk, S: Sources, K: Sink, A: Agenda> Driver<D, S, K, A> {
     }
 
     /// Does what the agenda asks for. Whether it is asked again.
-    fn serve(&mut self, turn: Turn) -> Result<bool, RunFault>
+    fn serve(&mut self, action: Action) -> Result<bool, RunFault>
         ensures same { SameDisk self.old.host.store.disk self.new.host.store.disk }
         ensures did { (n : ℕ) (w : World) → IsHost self.old.host w
             → DidSteps ⟦<Self as Driven>⟧.rules (seen n w (driver_parts self.old))
-            (items_by turn) (left_by_answer again) result
+            (items_by action) (left_by_answer again) result
             (n, driver_parts self.new) }
     {
-        match turn {
-            Turn::End => Ok(false),
-            Turn::Nothing => Ok(true),
-            Turn::Watch(input, patience) => and_again(self.watch(input, patience)),
-            Turn::Hear(seat, most) => and_again(self.hear(seat, most)),
-            Turn::Lines(first, events) => and_again(self.take_and_print(Some(first), events)),
-            Turn::Whole(first, edits) => and_again(self.take_whole(first, edits)),
-            Turn::Edits(up_to, edits) => and_again(self.take_edits(up_to, edits)),
-            Turn::Alone(event) => and_again(self.take_alone(event)),
-            Turn::Receive(seat) => and_again(self.receive(seat)),
-            Turn::Checkpoint(line) => and_again(self.rewrite(line)),
-            Turn::Stall => and_again(self.stall()),
-            Turn::Interrupt(name) => and_again(self.interrupt(name)),
-            Turn::Show(show) => and_again(self.show_and_heed(show)),
+        match action {
+            Action::End => Ok(false),
+            Action::Nothing => Ok(true),
+            Action::Watch(input, patience) => and_again(self.watch(input, patience)),
+            Action::Hear(seat, most) => and_again(self.hear(seat, most)),
+            Action::Lines(first, events) => and_again(self.take_and_print(Some(first), events)),
+            Action::Transaction(first, edits) => and_again(self.take_transaction(first, edits)),
+            Action::Edits(up_to, edits) => and_again(self.take_edits(up_to, edits)),
+            Action::Alone(event) => and_again(self.take_alone(event)),
+            Action::Receive(seat) => and_again(self.receive(seat)),
+            Action::Checkpoint(line) => and_again(self.rewrite(line)),
+            Action::Stall => and_again(self.stall()),
+            Action::Interrupt(name) => and_again(self.interrupt(name)),
+            Action::Show(show) => and_again(self.show_and_heed(show)),
         }
     }
 
@@ -324,7 +324,7 @@ impl<D: Disk, S: Sources, K: Sink, A: Agenda> Driver<D, S, K, A> {
     {
         let now = self.sources.now();
         match self.agenda.next(self.alloc, &self.host, now) {
-            Ok(turn) => self.serve(turn),
+            Ok(action) => self.serve(action),
             Err(why) => Err(why),
         }
     }

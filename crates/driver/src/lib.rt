@@ -2,6 +2,7 @@
 //! is next, it is done, and what came of it is printed.
 #![tactic(auto)]
 
+pub mod action;
 pub mod agenda;
 mod alone;
 pub mod driver;
@@ -17,10 +18,10 @@ pub mod sink;
 mod stalls;
 pub mod stamped;
 pub mod streaming;
-pub mod turn;
 pub mod voiced;
 mod whole;
 
+pub use action::Action;
 pub use agenda::Agenda;
 pub use driver::{Driven, Driver, MOST_COUNTED};
 pub use noting::Noting;
@@ -30,5 +31,4 @@ pub use sink::Sink;
 pub use stalls::stalled;
 pub use stamped::Stamped;
 pub use streaming::{OverStream, run_voiced};
-pub use turn::Turn;
 pub use voiced::Voiced;

@@ -18,7 +18,7 @@ pub enum Show {
     Export(u64, Format),
 }
 
-/// What came of a turn.
+/// What came of an action.
 #[derive(Drop)]
 pub enum Came {
     /// What events gave that were taken as one group, and what followed.

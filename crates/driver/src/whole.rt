@@ -2,7 +2,7 @@
 ghost use Rattle.std.specs.Prelude.{◌≤◌, ◌+◌, ◌<◌, ◌^◌, ◌∷◌, [], IfOk, OnOk, Some};
 ghost use Rattle.disk_model.specs.Disk.{SameDisk};
 ghost use Rattle.driver.specs.Drives.{Drives, DrivesUpTo};
-ghost use Rattle.driver.specs.Items.{printing, take_whole as taking_whole};
+ghost use Rattle.driver.specs.Items.{printing, take_transaction as taking_whole};
 ghost use Rattle.session_engine.specs.Whole.{HasAtMost};
 ghost use Rattle.driver.specs.inside.Wholes.{printing_whole};
 ghost use Rattle.driver.specs.Steps.{most_together};
@@ -72,7 +72,7 @@ impl<D: Disk, S: Sources, K: Sink, A: Agenda> Driver<D, S, K, A> {
     }
 
     /// Takes commands of lines from this one on as one group, all of them or none, and prints what they gave.
-    pub(crate) fn take_whole(&mut self, first: u64, edits: Edits) -> Result<(), RunFault>
+    pub(crate) fn take_transaction(&mut self, first: u64, edits: Edits) -> Result<(), RunFault>
         ensures same { SameDisk self.old.host.store.disk self.new.host.store.disk }
         ensures did { Drives ⟦<Self as Driven>⟧.rules self.old
             (taking_whole first edits ∷ []) result self.new }

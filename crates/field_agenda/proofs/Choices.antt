@@ -9,8 +9,8 @@ use Rattle.arrivals.specs.declared.sources.Input.TheVariants as input
 use Rattle.live.specs.declared.holding.Hold.TheVariants as hold
 use Rattle.live.specs.Arrivals.{IsOver, patience_at}
 use Rattle.driver.specs.Steps.{most_together}
-use Rattle.driver.specs.declared.turn.Turn.{Turn}
-use Rattle.driver.specs.declared.turn.Turn.TheVariants as turn
+use Rattle.driver.specs.declared.action.Action.{Action}
+use Rattle.driver.specs.declared.action.Action.TheVariants as action
 use Rattle.evaluation.specs.Beside.{NoneJoins, joins}
 use Rattle.evaluation.specs.Meant.{EndsHere, IsAsked}
 use Rattle.evaluation.specs.declared.lasts.Last.{Last}
@@ -41,8 +41,8 @@ joins_there plan w l ids stand at id is next there =
     subst (λ (m : List ℕ). slice_get m at ≡ Some id → IsAsked plan (sheet_in w).fields m stand at id × (joins plan w stand at id ≡ true)) is next there
 
 -- what a watch is, where none is late
-pub watched : {P : Type 0} (a b : ByFields P) (w : World) (now : ℕ) (t : Turn) → a.stand.held ≢ hold.Free → NoneJoins a.plan w a.ids a.stand → NoneLate a.ids a.stand w now
-    → (IsOver a.stand.held now × (t ≡ turn.Stall) × (b ≡ does_now a doing.Stall)) ⊎ ((IsOver a.stand.held now → ⊥) × (t ≡ turn.Watch input.HeldBack (patience_at a.stand.held now)) × (b ≡ a))
+pub watched : {P : Type 0} (a b : ByFields P) (w : World) (now : ℕ) (t : Action) → a.stand.held ≢ hold.Free → NoneJoins a.plan w a.ids a.stand → NoneLate a.ids a.stand w now
+    → (IsOver a.stand.held now × (t ≡ action.Stall) × (b ≡ does_now a doing.Stall)) ⊎ ((IsOver a.stand.held now → ⊥) × (t ≡ action.Watch input.HeldBack (patience_at a.stand.held now)) × (b ≡ a))
     → GoesUnheard a w now (Ok t) b
 watched a b w now t held none late (inl (over, is, same)) = stalls held none late over (ap Ok is) same
 watched a b w now t held none late (inr (going, is, same)) = watches held none late going (ap Ok is) same

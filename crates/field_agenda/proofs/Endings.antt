@@ -8,8 +8,8 @@ use Rattle.offline_programs.specs.declared.fault.RunFault.{RunFault}
 use Rattle.offline_programs.specs.declared.fault.RunFault.TheVariants as fault
 use Rattle.tellings.specs.declared.note.Note.{Note}
 use Rattle.driver.specs.declared.report.Show.TheVariants as show
-use Rattle.driver.specs.declared.turn.Turn.{Turn}
-use Rattle.driver.specs.declared.turn.Turn.TheVariants as turn
+use Rattle.driver.specs.declared.action.Action.{Action}
+use Rattle.driver.specs.declared.action.Action.TheVariants as action
 use Rattle.driver.specs.Items.{Item, RunStep, after_fault, ask, group_of, items_by, notes, print, printing_joined, taking_due}
 use Rattle.host_events.specs.declared.event.Event.{Event}
 use Rattle.child_edge.specs.Faithful.{due_of}
@@ -40,7 +40,7 @@ IsLastItem item.ask = Unit {0}
 IsLastItem (item.watch q) = ⊥
 IsLastItem (item.hear seat most) = ⊥
 IsLastItem (item.take from events) = ⊥
-IsLastItem (item.take_whole first events) = ⊥
+IsLastItem (item.take_transaction first events) = ⊥
 IsLastItem (item.take_edits up_to events) = ⊥
 IsLastItem (item.take_alone e) = ⊥
 IsLastItem (item.carry o) = ⊥
@@ -103,66 +103,66 @@ fault_last fault.SecondFile = tt
 
 -- what was said is the end only where it came to its end
 
-not_turn : (r : Result Turn RunFault) (t : Turn) → r ≡ Ok turn.End → r ≡ Ok t → t ≡ turn.End
-not_turn r t end is = let same : Ok t ≡ Ok turn.End = sym is ∙ end in cc
+not_action : (r : Result Action RunFault) (t : Action) → r ≡ Ok action.End → r ≡ Ok t → t ≡ action.End
+not_action r t end is = let same : Ok t ≡ Ok action.End = sym is ∙ end in cc
 
-not_fault : (r : Result Turn RunFault) (why : RunFault) → r ≡ Ok turn.End → r ≡ Err why → ⊥
-not_fault r why end is = let same : Ok turn.End ≡ Err why = sym end ∙ is in absurd cc
+not_fault : (r : Result Action RunFault) (why : RunFault) → r ≡ Ok action.End → r ≡ Err why → ⊥
+not_fault r why end is = let same : Ok action.End ≡ Err why = sym end ∙ is in absurd cc
 
-not_interrupt : (id : ℕ) (f : Option Field) → interrupts_of id f ≡ turn.End → ⊥
+not_interrupt : (id : ℕ) (f : Option Field) → interrupts_of id f ≡ action.End → ⊥
 not_interrupt id None is = absurd cc
 not_interrupt id (Some field) is = absurd cc
 
 module _ {P : Type 0} where
-  end_of_look : (finds : Finds) (a : ByFields P) (w : World) (r : Result Turn RunFault) (b : ByFields P) → r ≡ Ok turn.End → LooksFor finds a w r b → ⊥
-  end_of_look finds a w r b end (looked ids how finding is same) = let wrong = not_turn r turn.Nothing end is in absurd cc
+  end_of_look : (finds : Finds) (a : ByFields P) (w : World) (r : Result Action RunFault) (b : ByFields P) → r ≡ Ok action.End → LooksFor finds a w r b → ⊥
+  end_of_look finds a w r b end (looked ids how finding is same) = let wrong = not_action r action.Nothing end is in absurd cc
   end_of_look finds a w r b end (unlooked is same) = not_fault r _ end is
 
-  end_of_asking : (a : ByFields P) (w : World) (k id : ℕ) (r : Result Turn RunFault) (b : ByFields P) → r ≡ Ok turn.End → AsksFrom a w k id r b → ⊥
+  end_of_asking : (a : ByFields P) (w : World) (k id : ℕ) (r : Result Action RunFault) (b : ByFields P) → r ≡ Ok action.End → AsksFrom a w k id r b → ⊥
   end_of_asking a w k id r b end (asked t (taken, these, same_events) is same) =
-      let wrong : turn.Lines (k + 1) taken ≡ turn.End = sym these ∙ not_turn r t end is in absurd cc
+      let wrong : action.Lines (k + 1) taken ≡ action.End = sym these ∙ not_action r t end is in absurd cc
   end_of_asking a w k id r b end (unasked is same) = not_fault r _ end is
 
-  end_of_end : (a : ByFields P) (w : World) (stopped : Option ℕ) (r : Result Turn RunFault) (b : ByFields P) → r ≡ Ok turn.End → ComesToItsEnd a w stopped r b → ⊥
-  end_of_end a w stopped r b end (ends_with counts count is same) = let wrong = not_turn r _ end is in absurd cc
+  end_of_end : (a : ByFields P) (w : World) (stopped : Option ℕ) (r : Result Action RunFault) (b : ByFields P) → r ≡ Ok action.End → ComesToItsEnd a w stopped r b → ⊥
+  end_of_end a w stopped r b end (ends_with counts count is same) = let wrong = not_action r _ end is in absurd cc
   end_of_end a w stopped r b end (too_many_fields many is same) = not_fault r _ end is
 
-  end_of_unheard : (a : ByFields P) (w : World) (now : ℕ) (r : Result Turn RunFault) (b : ByFields P) → r ≡ Ok turn.End → GoesUnheard a w now r b → ⊥
+  end_of_unheard : (a : ByFields P) (w : World) (now : ℕ) (r : Result Action RunFault) (b : ByFields P) → r ≡ Ok action.End → GoesUnheard a w now r b → ⊥
   end_of_unheard a w now r b end (asks k id may asking) = end_of_asking a w k id r b end asking
   end_of_unheard a w now r b end (ends at free here so) = end_of_end a w at r b end so
-  end_of_unheard a w now r b end (interrupts n id held none late is same) = not_interrupt id _ (not_turn r _ end is)
-  end_of_unheard a w now r b end (stalls held none late over is same) = let wrong = not_turn r turn.Stall end is in absurd cc
-  end_of_unheard a w now r b end (watches held none late going is same) = let wrong = not_turn r _ end is in absurd cc
+  end_of_unheard a w now r b end (interrupts n id held none late is same) = not_interrupt id _ (not_action r _ end is)
+  end_of_unheard a w now r b end (stalls held none late over is same) = let wrong = not_action r action.Stall end is in absurd cc
+  end_of_unheard a w now r b end (watches held none late going is same) = let wrong = not_action r _ end is in absurd cc
 
-  end_of_going : (a : ByFields P) (w : World) (now : ℕ) (r : Result Turn RunFault) (b : ByFields P) → r ≡ Ok turn.End → FieldsGoOn a w now r b → ⊥
+  end_of_going : (a : ByFields P) (w : World) (now : ℕ) (r : Result Action RunFault) (b : ByFields P) → r ≡ Ok action.End → FieldsGoOn a w now r b → ⊥
   end_of_going a w now r b end (uncounted many is same) = not_fault r _ end is
-  end_of_going a w now r b end (hears seat due is same) = let wrong = not_turn r _ end is in absurd cc
+  end_of_going a w now r b end (hears seat due is same) = let wrong = not_action r _ end is in absurd cc
   end_of_going a w now r b end (goes_unheard none goes) = end_of_unheard (seen_due a) w now r b end goes
 
   ended_there : (how : Stage) (a b : ByFields P) → how ≡ a.stage → IsEnded how → b ≡ a → IsEnded b.stage
   ended_there how a b is ended same = subst (λ (x : ByFields P). IsEnded x.stage) (sym same) (subst IsEnded is ended)
 
-  said_end : (how : Stage) (finds : Finds) (a : ByFields P) (w : World) (now : ℕ) (b : ByFields P) → how ≡ a.stage → SaysAt how finds a w now (Ok turn.End) b → IsEnded b.stage
-  said_end stage.New finds a w now b is said = absurd (end_of_look finds a w (Ok turn.End) b refl said)
-  said_end stage.Going finds a w now b is said = absurd (end_of_going a w now (Ok turn.End) b refl said)
+  said_end : (how : Stage) (finds : Finds) (a : ByFields P) (w : World) (now : ℕ) (b : ByFields P) → how ≡ a.stage → SaysAt how finds a w now (Ok action.End) b → IsEnded b.stage
+  said_end stage.New finds a w now b is said = absurd (end_of_look finds a w (Ok action.End) b refl said)
+  said_end stage.Going finds a w now b is said = absurd (end_of_going a w now (Ok action.End) b refl said)
   said_end (stage.Counted end) finds a w now b is said = ended_there (stage.Counted end) a b is tt said.1
   said_end (stage.NoField id) finds a w now b is said = ended_there (stage.NoField id) a b is tt said.1
   said_end (stage.NoProgram name) finds a w now b is said = ended_there (stage.NoProgram name) a b is tt said.1
 
-  open_by : (finds : P → Finds) (a : ByFields P) (w : World) (now : ℕ) (t : Turn) (b : ByFields P) → FieldsSay finds a w now (Ok t) b → Open (items_by t) b.stage
-  open_by finds a w now turn.End b said = inr (refl, said_end a.stage (finds a.programs) a w now b refl said)
-  open_by finds a w now turn.Nothing b said = inl tt
-  open_by finds a w now (turn.Watch input patience) b said = inl tt
-  open_by finds a w now (turn.Hear seat most) b said = inl tt
-  open_by finds a w now (turn.Lines first events) b said = inl tt
-  open_by finds a w now (turn.Whole first events) b said = inl tt
-  open_by finds a w now (turn.Edits up_to events) b said = inl tt
-  open_by finds a w now (turn.Alone e) b said = inl tt
-  open_by finds a w now (turn.Receive seat) b said = inl tt
-  open_by finds a w now (turn.Checkpoint line) b said = inl tt
-  open_by finds a w now turn.Stall b said = inl tt
-  open_by finds a w now (turn.Interrupt name) b said = inl tt
-  open_by finds a w now (turn.Show s) b said = inl tt
+  open_by : (finds : P → Finds) (a : ByFields P) (w : World) (now : ℕ) (t : Action) (b : ByFields P) → FieldsSay finds a w now (Ok t) b → Open (items_by t) b.stage
+  open_by finds a w now action.End b said = inr (refl, said_end a.stage (finds a.programs) a w now b refl said)
+  open_by finds a w now action.Nothing b said = inl tt
+  open_by finds a w now (action.Watch input patience) b said = inl tt
+  open_by finds a w now (action.Hear seat most) b said = inl tt
+  open_by finds a w now (action.Lines first events) b said = inl tt
+  open_by finds a w now (action.Transaction first events) b said = inl tt
+  open_by finds a w now (action.Edits up_to events) b said = inl tt
+  open_by finds a w now (action.Alone e) b said = inl tt
+  open_by finds a w now (action.Receive seat) b said = inl tt
+  open_by finds a w now (action.Checkpoint line) b said = inl tt
+  open_by finds a w now action.Stall b said = inl tt
+  open_by finds a w now (action.Interrupt name) b said = inl tt
+  open_by finds a w now (action.Show s) b said = inl tt
 
 module _ {P C K : Type 0} (finds : P → Finds) (sources : SourceRules C) (sink : SinkRules K) where
   stays_open : (p q : RunPlace (ByFields P) C K) (todo next : List Item) (s : RunStep) → AsksLast todo → Goes (rules (fields_rules finds) sources sink) p todo s next q → Open next q.agenda.stage
@@ -175,9 +175,9 @@ module _ {P C K : Type 0} (finds : P → Finds) (sources : SourceRules C) (sink 
   stays_open p q todo next s last (step.joins events outcomes first more later followed a w c d rest j t) =
       inl (joined first outcomes later (reported (entries_after followed)) rest (following (item.join events) rest (λ no. no) last))
   stays_open p q todo next s last (step.takes_whole first events outcomes w d rest t) =
-      inl (thrice (group_of (Some first) outcomes) (followed_of []) (came outcomes []) rest (following (item.take_whole first events) rest (λ no. no) last))
+      inl (thrice (group_of (Some first) outcomes) (followed_of []) (came outcomes []) rest (following (item.take_transaction first events) rest (λ no. no) last))
   stays_open p q todo next s last (step.refuses_whole first events outcomes one rest r) =
-      inl (thrice (group_of (Some (first + length outcomes)) (one ∷ [])) (followed_of []) (came (one ∷ []) []) rest (following (item.take_whole first events) rest (λ no. no) last))
+      inl (thrice (group_of (Some (first + length outcomes)) (one ∷ [])) (followed_of []) (came (one ∷ []) []) rest (following (item.take_transaction first events) rest (λ no. no) last))
   stays_open p q todo next s last (step.takes_edits up_to events done outcomes w d rest first t) =
       inl (thrice (group_of None outcomes) (followed_of []) (came outcomes []) rest (following (item.take_edits up_to events) rest (λ no. no) last))
   stays_open p q todo next s last (step.takes_alone x o w d rest gives kept) = inl (before (item.carry o) rest (following (item.take_alone x) rest (λ no. no) last))

@@ -7,8 +7,8 @@ use Rattle.session_engine.specs.Joining.{ToBeTaken, alone, asking, with_more}
 use Rattle.child_edge.specs.Faithful.{Entry}
 use Rattle.offline_programs.specs.declared.fault.RunFault.{RunFault}
 use Rattle.offline_programs.specs.declared.fault.RunFault.TheVariants as fault
-use Rattle.driver.specs.declared.turn.Turn.{Turn}
-use Rattle.driver.specs.declared.turn.Turn.TheVariants as turn
+use Rattle.driver.specs.declared.action.Action.{Action}
+use Rattle.driver.specs.declared.action.Action.TheVariants as action
 use Rattle.driver.specs.Items.{Item, RunStep, after_fault, ask, entries_of, broke, chose, halt, items_by, print_fault}
 use Rattle.driver.specs.Laws.{trace}
 use Rattle.driver.specs.Place.{RunPlace, Rules, SinkRules, SourceRules, rules}
@@ -32,27 +32,27 @@ module _ {P : Type 0} where
   moved : (b c : ByFields P) → b ≡ c → IsUnderWay c.stage → IsUnderWay b.stage
   moved b c is under = subst (λ (x : ByFields P). IsUnderWay x.stage) (sym is) under
 
-  asking_on : (a : ByFields P) (w : World) (k id : ℕ) (r : Result Turn RunFault) (b : ByFields P) → IsUnderWay a.stage → AsksFrom a w k id r b → IsUnderWay b.stage
+  asking_on : (a : ByFields P) (w : World) (k id : ℕ) (r : Result Action RunFault) (b : ByFields P) → IsUnderWay a.stage → AsksFrom a w k id r b → IsUnderWay b.stage
   asking_on a w k id r b under (asked t lines is same) = moved b _ same under
   asking_on a w k id r b under (unasked is same) = moved b a same under
 
-  end_on : (a : ByFields P) (w : World) (stopped : Option ℕ) (r : Result Turn RunFault) (b : ByFields P) → IsUnderWay a.stage → ComesToItsEnd a w stopped r b → IsUnderWay b.stage
+  end_on : (a : ByFields P) (w : World) (stopped : Option ℕ) (r : Result Action RunFault) (b : ByFields P) → IsUnderWay a.stage → ComesToItsEnd a w stopped r b → IsUnderWay b.stage
   end_on a w stopped r b under (ends_with counts count is same) = moved b _ same tt
   end_on a w stopped r b under (too_many_fields many is same) = moved b a same under
 
-  unheard_on : (a : ByFields P) (w : World) (now : ℕ) (r : Result Turn RunFault) (b : ByFields P) → IsUnderWay a.stage → GoesUnheard a w now r b → IsUnderWay b.stage
+  unheard_on : (a : ByFields P) (w : World) (now : ℕ) (r : Result Action RunFault) (b : ByFields P) → IsUnderWay a.stage → GoesUnheard a w now r b → IsUnderWay b.stage
   unheard_on a w now r b under (asks k id may asking) = asking_on a w k id r b under asking
   unheard_on a w now r b under (ends at free here so) = end_on a w at r b under so
   unheard_on a w now r b under (interrupts n id held none late is same) = moved b _ same under
   unheard_on a w now r b under (stalls held none late over is same) = moved b _ same under
   unheard_on a w now r b under (watches held none late going is same) = moved b a same under
 
-  going_on : (a : ByFields P) (w : World) (now : ℕ) (r : Result Turn RunFault) (b : ByFields P) → IsUnderWay a.stage → FieldsGoOn a w now r b → IsUnderWay b.stage
+  going_on : (a : ByFields P) (w : World) (now : ℕ) (r : Result Action RunFault) (b : ByFields P) → IsUnderWay a.stage → FieldsGoOn a w now r b → IsUnderWay b.stage
   going_on a w now r b under (uncounted many is same) = moved b a same under
   going_on a w now r b under (hears seat due is same) = moved b _ same under
   going_on a w now r b under (goes_unheard none goes) = unheard_on (seen_due a) w now r b under goes
 
-  says_on : (how : Stage) (finds : Finds) (a : ByFields P) (w : World) (now : ℕ) (r : Result Turn RunFault) (b : ByFields P) → how ≡ a.stage → IsUnderWay a.stage → SaysAt how finds a w now r b → IsUnderWay b.stage
+  says_on : (how : Stage) (finds : Finds) (a : ByFields P) (w : World) (now : ℕ) (r : Result Action RunFault) (b : ByFields P) → how ≡ a.stage → IsUnderWay a.stage → SaysAt how finds a w now r b → IsUnderWay b.stage
   says_on stage.New finds a w now r b is under said = absurd (subst IsUnderWay (sym is) under)
   says_on stage.Going finds a w now r b is under said = going_on a w now r b under said
   says_on (stage.Counted end) finds a w now r b is under said = moved b a said.1 under
@@ -207,7 +207,7 @@ module _ {P C K : Type 0} (finds : P → Finds) (sources : SourceRules C) (sink 
   IsVain (stage.NoField id) = Unit {0}
   IsVain (stage.NoProgram name) = Unit {0}
 
-  vain_says : (how : Stage) (fs : Finds) (a : ByFields P) (w : World) (now : ℕ) (r : Result Turn RunFault) (b : ByFields P) → IsVain how → SaysAt how fs a w now r b → (r ≡ Ok turn.End) × (b ≡ a)
+  vain_says : (how : Stage) (fs : Finds) (a : ByFields P) (w : World) (now : ℕ) (r : Result Action RunFault) (b : ByFields P) → IsVain how → SaysAt how fs a w now r b → (r ≡ Ok action.End) × (b ≡ a)
   vain_says stage.New fs a w now r b vain said = absurd vain
   vain_says stage.Going fs a w now r b vain said = absurd vain
   vain_says (stage.Counted end) fs a w now r b vain said = absurd vain
@@ -218,28 +218,28 @@ module _ {P C K : Type 0} (finds : P → Finds) (sources : SourceRules C) (sink 
   nothing_rests p q left [] ran = rests_at p q left ran.1
   nothing_rests p q left (s ∷ steps) (next, mid, goes, more) = absurd (none_to_do finds sources sink p mid next s goes)
 
-  abbrev answers : Turn → Result Turn RunFault
+  abbrev answers : Action → Result Action RunFault
   answers t = Ok t
 
-  turn_is : (t u : Turn) → answers t ≡ answers u → t ≡ u
-  turn_is t u is = cc
+  action_is : (t u : Action) → answers t ≡ answers u → t ≡ u
+  action_is t u is = cc
 
   vain_rests : (p q : Place) (left : List Item) (steps : List RunStep) → IsVain p.agenda.stage → Run given p (ask ∷ []) steps left q → Rests p q steps left
   vain_rests p q left [] vain ran = rests_at p q left ran.1
   vain_rests p q left (s ∷ steps) vain (next, mid, step.asks now t a clock said, more) =
       let v = vain_says p.agenda.stage (finds p.agenda.programs) p.agenda p.world now (Ok t) a vain said in
       rests_after p mid q (chose t) steps left refl refl refl (λ e. refl) (ap (λ (x : ByFields P). x.stage) v.1)
-      (nothing_rests mid q left steps (subst (λ (u : Turn). Run given mid (items_by u) steps left q) (turn_is t turn.End v.0) more))
+      (nothing_rests mid q left steps (subst (λ (u : Action). Run given mid (items_by u) steps left q) (action_is t action.End v.0) more))
   vain_rests p q left (s ∷ steps) vain (next, mid, step.breaks i entries why there rest (step.unsaid now w a clock said), more) =
       let v = vain_says p.agenda.stage (finds p.agenda.programs) p.agenda p.world now (Err w) a vain said in
-      let wrong : Err w ≡ Ok turn.End = v.0 in absurd cc
+      let wrong : Err w ≡ Ok action.End = v.0 in absurd cc
   vain_rests p q left (s ∷ steps) vain (next, mid, step.breaks i entries why there rest (step.uncounted many), more) =
       broke_rests p p q fault.InputTooLong left steps refl refl refl more
 
   -- what a run does after it looked
 
   did_before : (p mid q : Place) (left : List Item) (steps : List RunStep) → mid.sources ≡ p.sources → mid.disk ≡ p.disk → mid.sink ≡ p.sink → Rests mid q steps left
-      → DidNothing p q (chose turn.Nothing ∷ steps) left
+      → DidNothing p q (chose action.Nothing ∷ steps) left
   did_before p mid q left steps sources_same disk_same sink_same r = record {
     none = r.did_not.none;
     sources = r.did_not.sources ∙ sources_same;
@@ -248,7 +248,7 @@ module _ {P C K : Type 0} (finds : P → Finds) (sources : SourceRules C) (sink 
   }
 
   found_run : (p mid q : Place) (ids : List ℕ) (how : Stage) (left : List Item) (steps : List RunStep) → mid.sources ≡ p.sources → mid.disk ≡ p.disk → mid.sink ≡ p.sink → mid.agenda ≡ found p.agenda ids how
-      → LookFinds (finds p.agenda.programs) p.agenda.plan (sheet_in p.world) ids how → Run given mid (ask ∷ []) steps left q → LookedFirst finds p q (chose turn.Nothing ∷ steps) left
+      → LookFinds (finds p.agenda.programs) p.agenda.plan (sheet_in p.world) ids how → Run given mid (ask ∷ []) steps left q → LookedFirst finds p q (chose action.Nothing ∷ steps) left
   found_run p mid q ids how left steps sources_same disk_same sink_same same (all_there missing ready order) more =
       all_found missing ready (run_on mid q (ask ∷ []) left steps (moved mid.agenda _ same tt) more)
   found_run p mid q ids how left steps sources_same disk_same sink_same same (no_field id missing) more =
@@ -260,19 +260,19 @@ module _ {P C K : Type 0} (finds : P → Finds) (sources : SourceRules C) (sink 
       let r = vain_rests mid q left steps (subst IsVain (sym at) tt) more in
       in_vain ids (stage.NoProgram name) (λ no. no) (no_program name missing lacking) (r.same ∙ at) (did_before p mid q left steps sources_same disk_same sink_same r)
 
-  looked_run : (p mid q : Place) (t : Turn) (left : List Item) (steps : List RunStep) → mid.sources ≡ p.sources → mid.disk ≡ p.disk → mid.sink ≡ p.sink
+  looked_run : (p mid q : Place) (t : Action) (left : List Item) (steps : List RunStep) → mid.sources ≡ p.sources → mid.disk ≡ p.disk → mid.sink ≡ p.sink
       → LooksFor (finds p.agenda.programs) p.agenda p.world (Ok t) mid.agenda → Run given mid (items_by t) steps left q → LookedFirst finds p q (chose t ∷ steps) left
   looked_run p mid q t left steps sources_same disk_same sink_same (looked ids how finding is same) more =
-      let nothing = turn_is t turn.Nothing is in
-      subst (λ (u : Turn). LookedFirst finds p q (chose u ∷ steps) left) (sym nothing)
-      (found_run p mid q ids how left steps sources_same disk_same sink_same same finding (subst (λ (u : Turn). Run given mid (items_by u) steps left q) nothing more))
+      let nothing = action_is t action.Nothing is in
+      subst (λ (u : Action). LookedFirst finds p q (chose u ∷ steps) left) (sym nothing)
+      (found_run p mid q ids how left steps sources_same disk_same sink_same same finding (subst (λ (u : Action). Run given mid (items_by u) steps left q) nothing more))
   looked_run p mid q t left steps sources_same disk_same sink_same (unlooked is same) more = let wrong : Ok t ≡ Err fault.OutOfMemory = is in absurd cc
 
-  at_new : (fs : Finds) (a : ByFields P) (w : World) (now : ℕ) (r : Result Turn RunFault) (b : ByFields P) → a.stage ≡ stage.New → SaysAt a.stage fs a w now r b → LooksFor fs a w r b
+  at_new : (fs : Finds) (a : ByFields P) (w : World) (now : ℕ) (r : Result Action RunFault) (b : ByFields P) → a.stage ≡ stage.New → SaysAt a.stage fs a w now r b → LooksFor fs a w r b
   at_new fs a w now r b new said = subst (λ (how : Stage). SaysAt how fs a w now r b) new said
 
   unlooked_same : (fs : Finds) (a : ByFields P) (w : World) (why : RunFault) (b : ByFields P) → LooksFor fs a w (Err why) b → b.stage ≡ a.stage
-  unlooked_same fs a w why b (looked ids how finding is same) = let wrong : Err why ≡ Ok turn.Nothing = is in absurd cc
+  unlooked_same fs a w why b (looked ids how finding is same) = let wrong : Err why ≡ Ok action.Nothing = is in absurd cc
   unlooked_same fs a w why b (unlooked is same) = ap (λ (x : ByFields P). x.stage) same
 
   pub looked_first : (p q : Place) (left : List Item) (steps : List RunStep) → p.agenda.stage ≡ stage.New → Run given p (ask ∷ []) steps left q → LookedFirst finds p q steps left

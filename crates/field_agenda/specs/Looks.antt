@@ -9,8 +9,8 @@ use Rattle.evaluation.specs.Meant.{missing_in}
 use Rattle.evaluation.specs.Programs.{Finds}
 use Rattle.evaluation.specs.Rounds.{asking_order}
 use Rattle.evaluation.specs.declared.plan.Plan.{Plan}
-use Rattle.driver.specs.declared.turn.Turn.{Turn}
-use Rattle.driver.specs.declared.turn.Turn.TheVariants as turn
+use Rattle.driver.specs.declared.action.Action.{Action}
+use Rattle.driver.specs.declared.action.Action.TheVariants as action
 use Rattle.field_agenda.specs.declared.by_fields.ByFields.{ByFields}
 use Rattle.field_agenda.specs.declared.stage.Stage.{Stage}
 use Rattle.field_agenda.specs.declared.stage.Stage.TheVariants as stage
@@ -24,6 +24,6 @@ pub data LookFinds (finds : Finds) (plan : Plan) (sheet : Contents) (ids : List 
   all_there : missing_in plan.which sheet.fields ≡ None → AreReady finds plan sheet → ids ≡ asking_order plan sheet → LookFinds finds plan sheet ids stage.Going
 
 -- It looks, or there was no memory for the numbers of the fields.
-pub data LooksFor {P : Type 0} (finds : Finds) (a : ByFields P) (w : World) (r : Result Turn RunFault) (b : ByFields P) : Type 0 where
-  looked : (ids : List ℕ) (how : Stage) → LookFinds finds a.plan (sheet_in w) ids how → r ≡ Ok turn.Nothing → b ≡ found a ids how → LooksFor finds a w r b
+pub data LooksFor {P : Type 0} (finds : Finds) (a : ByFields P) (w : World) (r : Result Action RunFault) (b : ByFields P) : Type 0 where
+  looked : (ids : List ℕ) (how : Stage) → LookFinds finds a.plan (sheet_in w) ids how → r ≡ Ok action.Nothing → b ≡ found a ids how → LooksFor finds a w r b
   unlooked : r ≡ Err fault.OutOfMemory → b ≡ a → LooksFor finds a w r b

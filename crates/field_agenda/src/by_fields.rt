@@ -26,7 +26,7 @@ use block_tree::Sequence;
 use child_calls::Seat;
 use child_edge::Interrupted;
 use disk_model::Disk;
-use driver::{Agenda, Came, Show, Turn};
+use driver::{Action, Agenda, Came, Show};
 use evaluation::asking::stop_line;
 use evaluation::beside::{Late, joining};
 use evaluation::plan::{Stand, counts_of};
@@ -60,12 +60,12 @@ pub struct ByFields<P> {
 }
 
 /// The interrupt for the field with this number; that there is no field any more is shown.
-fn interrupt_for(id: u32, field: Option<&Field>) -> Turn
+fn interrupt_for(id: u32, field: Option<&Field>) -> Action
     ensures { result ≡ says.interrupts_of id (option_copied field.entry) }
 {
     match field {
-        Some(field) => Turn::Interrupt(field.session),
-        None => Turn::Show(Show::Note(Note::Over(id, Interrupted::NoSession))),
+        Some(field) => Action::Interrupt(field.session),
+        None => Action::Show(Show::Note(Note::Over(id, Interrupted::NoSession))),
     }
 }
 
@@ -104,7 +104,7 @@ impl<P: Programs> ByFields<P> {
     }
 
     /// Looks whether all is there that it needs.
-    fn look<D: Disk>(&mut self, alloc: Global, host: &Host<D>) -> Result<Turn, RunFault>
+    fn look<D: Disk>(&mut self, alloc: Global, host: &Host<D>) -> Result<Action, RunFault>
         ensures { (w : World) → IsHost host.now w
             → LooksFor (P.finds self.old.programs) self.old w result self.new }
     {
@@ -112,7 +112,7 @@ impl<P: Programs> ByFields<P> {
             Ok(Found { ids, stage }) => {
                 self.ids = Sequence::from_vec(ids);
                 self.stage = stage;
-                Ok(Turn::Nothing)
+                Ok(Action::Nothing)
             }
             Err(_) => Err(RunFault::OutOfMemory),
         }
@@ -150,7 +150,7 @@ impl<P: Programs> ByFields<P> {
     }
 
     /// Asks the fields that are asked together from this place on.
-    fn ask<D: Disk>(&mut self, alloc: Global, host: &Host<D>, at: usize) -> Result<Turn, RunFault>
+    fn ask<D: Disk>(&mut self, alloc: Global, host: &Host<D>, at: usize) -> Result<Action, RunFault>
         requires there { at < length self.old.ids }
         requires few { length self.old.ids < 2 ^ 31 }
         requires counted { self.old.stand.asked + most_together + 1 < 2 ^ 64 }
@@ -161,14 +161,14 @@ impl<P: Programs> ByFields<P> {
             Ok(Asking { events, stand }) => {
                 self.stand = stand;
                 self.doing = FieldDoing::Ask;
-                Ok(Turn::Lines(at as u64 + 1, events))
+                Ok(Action::Lines(at as u64 + 1, events))
             }
             Err(_) => Err(RunFault::OutOfMemory),
         }
     }
 
     /// It comes to its end here.
-    fn end<D: Disk>(&mut self, host: &Host<D>) -> Result<Turn, RunFault>
+    fn end<D: Disk>(&mut self, host: &Host<D>) -> Result<Action, RunFault>
         requires taken { self.old.stand.taken ≤ length self.old.ids }
         requires few { length self.old.ids < 2 ^ 31 }
         ensures { (w : World) (stopped : Option ℕ) → IsHost host.now w
@@ -183,7 +183,7 @@ impl<P: Programs> ByFields<P> {
         let all = self.ids.as_slice().len();
         let counts = counts_of(&self.plan, all as u64, sheet, &self.stand);
         self.stage = Stage::Counted(EvalEnd { stopped_at, counts });
-        Ok(Turn::Show(Show::Note(Note::Counted(counts))))
+        Ok(Action::Show(Show::Note(Note::Counted(counts))))
     }
 
     /// Asks the next fields, where no item waits.
@@ -192,7 +192,7 @@ impl<P: Programs> ByFields<P> {
         alloc: Global,
         host: &Host<D>,
         now: u64,
-    ) -> Result<Turn, RunFault>
+    ) -> Result<Action, RunFault>
         requires taken { self.old.stand.taken ≤ length self.old.ids }
         requires few { length self.old.ids < 2 ^ 31 }
         requires counted { self.old.stand.asked + most_together + 1 < 2 ^ 64 }
@@ -206,18 +206,18 @@ impl<P: Programs> ByFields<P> {
     }
 
     /// Hears this life, and others that are ready.
-    fn hear(&mut self, seat: Seat) -> Turn
-        ensures turn { result ≡ Turn.Hear seat (others self.old.plan.strict) }
+    fn hear(&mut self, seat: Seat) -> Action
+        ensures action { result ≡ Action.Hear seat (others self.old.plan.strict) }
         ensures stands { self.new ≡ does_now self.old does.Life }
     {
         self.doing = FieldDoing::Life;
-        Turn::Hear(seat, most_others(self.plan.strict))
+        Action::Hear(seat, most_others(self.plan.strict))
     }
 
     /// The time of this field is over: its interpreter is interrupted.
-    fn warn<D: Disk>(&mut self, host: &Host<D>, late: Late) -> Turn
+    fn warn<D: Disk>(&mut self, host: &Host<D>, late: Late) -> Action
         requires counted { self.old.stand.overs + 1 < 2 ^ 64 }
-        ensures turn { (w : World) → IsHost host.now w
+        ensures action { (w : World) → IsHost host.now w
             → result ≡ says.interrupts_of late.id (field_in (sheet_in w).fields late.id) }
         ensures stands { self.new ≡ does_at self.old (does.Over late.id)
             (warned_from self.old.stand late.place) }
@@ -230,22 +230,22 @@ impl<P: Programs> ByFields<P> {
     }
 
     /// Watches the sources, or takes it that lives have stalled where the two seconds after an interrupt are over.
-    fn watch(&mut self, now: u64) -> Turn
-        ensures { ((IsOver self.old.stand.held now) × (result ≡ Turn.Stall)
+    fn watch(&mut self, now: u64) -> Action
+        ensures { ((IsOver self.old.stand.held now) × (result ≡ Action.Stall)
             × (self.new ≡ does_now self.old does.Stall))
             ⊎ ((IsOver self.old.stand.held now → ⊥)
-            × (result ≡ Turn.Watch Input.HeldBack (patience_at self.old.stand.held now))
+            × (result ≡ Action.Watch Input.HeldBack (patience_at self.old.stand.held now))
             × (self.new ≡ self.old)) }
     {
         if is_over(self.stand.held, now) {
             self.doing = FieldDoing::Stall;
-            return Turn::Stall;
+            return Action::Stall;
         }
-        Turn::Watch(Input::HeldBack, patience(self.stand.held, now))
+        Action::Watch(Input::HeldBack, patience(self.stand.held, now))
     }
 
     /// What is next where items wait and no field is asked beside them.
-    fn go_on<D: Disk>(&mut self, host: &Host<D>, now: u64) -> Turn
+    fn go_on<D: Disk>(&mut self, host: &Host<D>, now: u64) -> Action
         requires taken { self.old.stand.taken ≤ length self.old.ids }
         requires counted { self.old.stand.overs + 1 < 2 ^ 64 }
         requires held { self.old.stand.held ≢ Hold.Free }
@@ -265,7 +265,7 @@ impl<P: Programs> ByFields<P> {
         alloc: Global,
         host: &Host<D>,
         now: u64,
-    ) -> Result<Turn, RunFault>
+    ) -> Result<Action, RunFault>
         requires taken { self.old.stand.taken ≤ length self.old.ids }
         requires few { length self.old.ids < 2 ^ 31 }
         requires counted { (self.old.stand.asked + most_together + 1 < 2 ^ 64)
@@ -285,7 +285,7 @@ impl<P: Programs> ByFields<P> {
         alloc: Global,
         host: &Host<D>,
         now: u64,
-    ) -> Result<Turn, RunFault>
+    ) -> Result<Action, RunFault>
         requires taken { self.old.stand.taken ≤ length self.old.ids }
         requires few { length self.old.ids < 2 ^ 31 }
         requires counted { (self.old.stand.asked + most_together + 1 < 2 ^ 64)
@@ -314,7 +314,7 @@ impl<P: Programs> ByFields<P> {
         alloc: Global,
         host: &Host<D>,
         now: u64,
-    ) -> Result<Turn, RunFault>
+    ) -> Result<Action, RunFault>
         requires taken { self.old.stand.taken ≤ length self.old.ids }
         requires few { length self.old.ids < 2 ^ 31 }
         requires counted { (self.old.stand.asked + most_together + 1 < 2 ^ 64)
@@ -328,12 +328,12 @@ impl<P: Programs> ByFields<P> {
     }
 
     /// What is next where fields are asked.
-    fn next_turn<D: Disk>(
+    fn next_action<D: Disk>(
         &mut self,
         alloc: Global,
         host: &Host<D>,
         now: u64,
-    ) -> Result<Turn, RunFault>
+    ) -> Result<Action, RunFault>
         ensures { (w : World) → IsHost host.now w → FieldsGoOn self.old w now result self.new }
     {
         if is_full(&self.stand) {
@@ -363,17 +363,22 @@ impl<P: Programs> Joins for ByFields<P> {
 }
 
 impl<P: Programs> Agenda for ByFields<P> {
-    ghost use Rattle.field_agenda.specs.FieldsRules.{fields_turns};
+    ghost use Rattle.field_agenda.specs.FieldsRules.{fields_actions};
 
-    ghost rules = { fields_turns P.finds };
+    ghost rules = { fields_actions P.finds };
 
-    fn next<D: Disk>(&mut self, alloc: Global, host: &Host<D>, now: u64) -> Result<Turn, RunFault> {
+    fn next<D: Disk>(
+        &mut self,
+        alloc: Global,
+        host: &Host<D>,
+        now: u64,
+    ) -> Result<Action, RunFault> {
         match self.stage {
             Stage::New => self.look(alloc, host),
-            Stage::Going => self.next_turn(alloc, host, now),
-            Stage::Counted(_) => Ok(Turn::End),
-            Stage::NoField(_) => Ok(Turn::End),
-            Stage::NoProgram(_) => Ok(Turn::End),
+            Stage::Going => self.next_action(alloc, host, now),
+            Stage::Counted(_) => Ok(Action::End),
+            Stage::NoField(_) => Ok(Action::End),
+            Stage::NoProgram(_) => Ok(Action::End),
         }
     }
 

@@ -21,7 +21,7 @@ pub enum Command {
         session: Octets,
         input: Octets,
     },
-    /// Another input for a field, whose answer is taken away.
+    /// Another input for a field. Its answer is taken away, or the reason why it has none.
     Set {
         id: u32,
         input: Octets,
@@ -35,12 +35,12 @@ pub enum Command {
         id: u32,
         after: u32,
     },
-    /// The answer of a field is taken away.
+    /// The answer of a field is taken away, or the reason why it has none.
     Clear {
         id: u32,
     },
     /// The input of a field is sent to the interpreter of its session, which is started where it
-    /// isn't running. The answer of the field is taken away.
+    /// isn't running. The field's answer is taken away, or the reason why it has none.
     Eval {
         id: u32,
     },

@@ -8,7 +8,7 @@ use Rattle.disk_model.specs.inside.Moments.{goes_on, weakens, at_end, stays}
 use Rattle.journal.specs.Area.{HasHeader, StandsFor, IsPayload, body_of, closed_gate, end_of, first_gate, header, named_by, names_second, open_gate, records, selector_at}
 use Rattle.journal.specs.Kept.{EitherStands, ImageStandsFor, Keeps, active_area}
 use Rattle.journal.specs.Limits.{longest_payload}
-use Rattle.journal.specs.inside.Again.{IsReadyToTurn, SparedBy, Spares, Went, naming}
+use Rattle.journal.specs.inside.Again.{IsReadyToActivate, SparedBy, Spares, Went, naming}
 use Rattle.journal.specs.inside.Standing.{at_active, keeps_images, same_named}
 use Rattle.journal.proofs.Actives.{changed}
 use Rattle.journal.proofs.Bytes.{Laid, after_gate, after_stage, end-append, end-push, one_group}
@@ -113,7 +113,7 @@ spares_either area h0 h1 end payloads others keeps named run =
 -- so the selector may be turned, once the area is laid and durable
 pub ready : (area : Area) (h0 h1 : History) (end : ℕ) (payloads others : List (List ℕ)) → Keeps h0 end payloads → active_area (content_of h0) ≡ other_area area
     → LeavesOnly (Spares area h0.now) h0 h1 → SparedBy area (content_of h0) (content_of h1) → StandsFor longest_payload (area_of area (content_of h1)) others
-    → Leaves (λ i. area_of area i ≡ area_of area (content_of h1)) h1.now → IsReadyToTurn area payloads others h1
+    → Leaves (λ i. area_of area i ≡ area_of area (content_of h1)) h1.now → IsReadyToActivate area payloads others h1
 ready area h0 h1 end payloads others keeps named run spared laid durable = record {
   stands = λ i image. (each i image).0;
   named = λ i image. (each i image).1;
@@ -222,7 +222,7 @@ module _ (area : Area) (n : ℕ) (names : n ≡ naming area) (h0 : History) wher
   abbrev selected : List ℕ
   selected = n ∷ []
 
-  module _ (before payloads : List (List ℕ)) (ready : IsReadyToTurn area before payloads h0) where
+  module _ (before payloads : List (List ℕ)) (ready : IsReadyToActivate area before payloads h0) where
     record Turns (i : Image) : Type 0 where
       pub either : EitherStands before payloads i
       pub second : SecondKept area old i

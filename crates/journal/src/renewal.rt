@@ -10,7 +10,7 @@ ghost use Rattle.journal.specs.inside.Again.{SparedBy, Spares};
 ghost use Rattle.journal.specs.inside.Batches.{IsBatch};
 
 use crate::layout::FIRST_GATE;
-use crate::rewrite::{lay_none, turn};
+use crate::rewrite::{activate, lay_none};
 use crate::source::{BATCH_LEN, Source};
 use disk_model::{Area, Disk, DiskFault};
 
@@ -169,6 +169,6 @@ pub(crate) fn write_from<D: Disk, S: Source>(
         (S.payloads source.now))) }
 {
     let end = lay_from(disk, area, source, batch)?;
-    turn(disk, area)?;
+    activate(disk, area)?;
     Ok(end)
 }

@@ -5,7 +5,7 @@ ghost use Rattle.journal.specs.Area.{HasHeader, IsPayload, StandsFor, body_of, c
 ghost use Rattle.journal.specs.Kept.{EitherStands, FitsAgain, Keeps};
 ghost use Rattle.journal.specs.Limits.{longest_payload};
 ghost use Rattle.journal.specs.inside.Active.{HasEnd, IsActive};
-ghost use Rattle.journal.specs.inside.Again.{IsReadyToTurn, SparedBy, Spares, naming};
+ghost use Rattle.journal.specs.inside.Again.{IsReadyToActivate, SparedBy, Spares, naming};
 
 use crate::Frame;
 use crate::layout::{EMPTY_LEN, FIRST_GATE, NAMES_SECOND, OPEN_GATE, SELECTOR};
@@ -141,7 +141,7 @@ fn selector_naming(area: Area) -> u8
 }
 
 /// Names an area as the active one.
-pub(crate) fn turn<D: Disk>(disk: &mut D, area: Area) -> Result<(), DiskFault>
+pub(crate) fn activate<D: Disk>(disk: &mut D, area: Area) -> Result<(), DiskFault>
     requires room { InModel (D.view disk.old) (first_gate ≤ (D.view disk.old).room) }
     requires headed { InModel (D.view disk.old) (first_gate < length
         (bytes_on (D.view disk.old)).first) }
@@ -153,13 +153,13 @@ pub(crate) fn turn<D: Disk>(disk: &mut D, area: Area) -> Result<(), DiskFault>
         (bytes_on (D.view disk.new))))) }
     ensures any_moment { InModel (D.view disk.old)
         ((before payloads : List (List ℕ))
-        → IsReadyToTurn area before payloads (D.view disk.old).history
+        → IsReadyToActivate area before payloads (D.view disk.old).history
         → LeavesOnly (EitherStands before payloads) (D.view disk.old).history
         (D.view disk.new).history) }
     ensures acknowledged { OnOk result
         (InModel (D.view disk.old)
         ((before payloads : List (List ℕ))
-        → IsReadyToTurn area before payloads (D.view disk.old).history
+        → IsReadyToActivate area before payloads (D.view disk.old).history
         → Keeps (D.view disk.new).history (end_of payloads) payloads)) }
 {
     disk.write_at(Area::First, SELECTOR, &[selector_naming(area)])?;
@@ -191,6 +191,6 @@ pub(crate) fn write_again<D: Disk>(
         → Keeps (D.view disk.new).history (end_of frames.now) frames.now)) }
 {
     lay_all(disk, area, frames)?;
-    turn(disk, area)?;
+    activate(disk, area)?;
     Ok(())
 }

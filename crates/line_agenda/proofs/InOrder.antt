@@ -10,7 +10,7 @@ use Rattle.arrivals.specs.Lines.{InputLine, whole}
 use Rattle.arrivals.specs.Held.{Held, KeepsLines, left_with, to_come}
 use Rattle.live.specs.Arrivals.{said_by}
 use Rattle.offline_programs.specs.declared.fault.RunFault.{RunFault}
-use Rattle.driver.specs.declared.turn.Turn.{Turn}
+use Rattle.driver.specs.declared.action.Action.{Action}
 use Rattle.driver.specs.Items.{Item, RunStep}
 use Rattle.driver.specs.Place.{RunPlace, SinkRules, SourceRules, rules}
 use Rattle.driver.specs.Steps.{Fails, Goes, Run}
@@ -83,7 +83,7 @@ took : (a b : LinesAt) (lines : List InputLine) → b.number ≡ a.number + leng
     → ((before : List InputLine) → Opened before a.transaction → Opened (before ++ lines) b.transaction) → Leads a b
 took a b lines count come keeps = record { order = record { taken = lines; count = count; are = come }; keeps = keeps }
 
-of_line : (a : LinesAt) (k : Held) (w : World) (now : ℕ) (x : InputLine) (r : Result Turn RunFault) (b : LinesAt) → ComeNext (x ∷ []) a.buffer k → TakesGivenLine (given_to a k) w now (said_by x) r b → Leads a b
+of_line : (a : LinesAt) (k : Held) (w : World) (now : ℕ) (x : InputLine) (r : Result Action RunFault) (b : LinesAt) → ComeNext (x ∷ []) a.buffer k → TakesGivenLine (given_to a k) w now (said_by x) r b → Leads a b
 of_line a k w now x (Ok t) b next (c, asks, is, same) =
     moved a _ b same (took a _ (x ∷ []) refl (come_next (x ∷ []) a.buffer k a.remaining next) (λ before o. one_more before x a.transaction (given_to a k) w now c asks o))
 of_line a k w now x (Err why) b next (is, command, same) = moved a _ b same (took a _ (x ∷ []) refl (come_next (x ∷ []) a.buffer k a.remaining next) (λ before o. closed))
@@ -92,7 +92,7 @@ same_left : (h k : Held) (remaining : Option (List ℕ)) → ((more : List ℕ) 
 same_left h k None left = refl
 same_left h k (Some more) left = ap (λ (l : List InputLine). Some l) (left more)
 
-of_reading : (a : LinesAt) (h : Held) (r : Result Turn RunFault) (b : LinesAt) → ((more : List ℕ) → left_with h more ≡ left_with a.buffer more) → ReadsOn (given_to a h) r b → Leads a b
+of_reading : (a : LinesAt) (h : Held) (r : Result Action RunFault) (b : LinesAt) → ((more : List ℕ) → left_with h more ≡ left_with a.buffer more) → ReadsOn (given_to a h) r b → Leads a b
 of_reading a h r b left (k, remaining, same, keeps, so) =
     moved a _ b same (took a _ [] (omega arith)
     (come_kept (to_come a.buffer a.remaining) (to_come k remaining) (subst (λ (o : Option (List InputLine)). KeepsLines o (to_come k remaining)) (same_left a.buffer h a.remaining left) keeps))
@@ -102,11 +102,11 @@ of_end : (a : LinesAt) (k : Held) → ((more : List ℕ) → (left_with a.buffer
 of_end a k none = same_left a.buffer k a.remaining (λ more. (none more).1 ∙ sym (none more).0)
 
 -- at the end of the input, in a transaction or not
-ended_so : (a : LinesAt) (k : Held) (there : Option Transaction) (t : Turn) (b : LinesAt) → to_come k a.remaining ≡ to_come a.buffer a.remaining → EndsInput there (given_to a k) t b → Leads a b
+ended_so : (a : LinesAt) (k : Held) (there : Option Transaction) (t : Action) (b : LinesAt) → to_come k a.remaining ≡ to_come a.buffer a.remaining → EndsInput there (given_to a k) t b → Leads a b
 ended_so a k None t b left (is, same) = moved a _ b same (stays a _ refl left refl)
 ended_so a k (Some transaction) t b left (is, same) = moved a _ b same (took a _ [] (omega arith) (come_same (coming a) _ left) (λ before o. closed))
 
-of_input : (a : LinesAt) (w : World) (now : ℕ) (r : Result Turn RunFault) (b : LinesAt) → TakesInput a w now r b → Leads a b
+of_input : (a : LinesAt) (w : World) (now : ℕ) (r : Result Action RunFault) (b : LinesAt) → TakesInput a w now r b → Leads a b
 of_input a w now r b (together given k t lax none grouped one few ready next is asks same) =
     moved a _ b same (took a _ (map whole given) (ap (λ (n : ℕ). a.number + n) (sym (length-map given whole))) (come_next (map whole given) a.buffer k a.remaining next)
     (λ before o. closed_so (before ++ map whole given) a.transaction none))
@@ -119,12 +119,12 @@ pub same_lines : (a b : LinesAt) → b.buffer ≡ a.buffer → b.remaining ≡ a
 same_lines a b buffer remaining number transaction =
     stays a b number (ap (λ (h : Held). to_come h b.remaining) buffer ∙ ap (λ (o : Option (List ℕ)). to_come a.buffer o) remaining) transaction
 
-of_limit : (a : LinesAt) (w : World) (now : ℕ) (r : Result Turn RunFault) (b : LinesAt) → SaysLimit a w now r b → Leads a b
+of_limit : (a : LinesAt) (w : World) (now : ℕ) (r : Result Action RunFault) (b : LinesAt) → SaysLimit a w now r b → Leads a b
 of_limit a w now r b (first_of seat rest waiting is same) = moved a _ b same (same_lines a _ refl refl refl refl)
 of_limit a w now r b (of_none waiting is same) = moved a _ b same (same_lines a _ refl refl refl refl)
 of_limit a w now r b (unlisted is same) = moved a a b same (same_lines a a refl refl refl refl)
 
-of_matter : (a : LinesAt) (w : World) (now : ℕ) (m : Matter) (r : Result Turn RunFault) (b : LinesAt) → SaysMatter a w now m r b → Leads a b
+of_matter : (a : LinesAt) (w : World) (now : ℕ) (m : Matter) (r : Result Action RunFault) (b : LinesAt) → SaysMatter a w now m r b → Leads a b
 of_matter a w now matter.Untimely r b said = moved a a b said.1 (same_lines a a refl refl refl refl)
 of_matter a w now matter.Watch r b (there, ready, is, same) = moved a a b same (same_lines a a refl refl refl refl)
 of_matter a w now matter.Input r b said = of_input a w now r b said
@@ -132,7 +132,7 @@ of_matter a w now (matter.Life seat) r b said = moved a _ b said.1 (same_lines a
 of_matter a w now matter.Limit r b said = of_limit a w now r b said
 of_matter a w now matter.Stall r b said = moved a _ b said.1 (same_lines a _ refl refl refl refl)
 
-of_saying : (a : LinesAt) (w : World) (now : ℕ) (r : Result Turn RunFault) (b : LinesAt) → LinesSay a w now r b → Leads a b
+of_saying : (a : LinesAt) (w : World) (now : ℕ) (r : Result Action RunFault) (b : LinesAt) → LinesSay a w now r b → Leads a b
 of_saying a w now r b (stopped held is same) = moved a a b same (same_lines a a refl refl refl refl)
 of_saying a w now r b (uncounted many is same) = moved a a b same (same_lines a a refl refl refl refl)
 of_saying a w now r b (warns seat rest late is same) = moved a _ b same (same_lines a _ refl refl refl refl)

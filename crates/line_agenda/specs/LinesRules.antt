@@ -2,7 +2,7 @@
 use Rattle.std.specs.Prelude.{◌≡◌, ℕ, List, [], Option, None}
 use Rattle.host_events.specs.declared.event.Event.{Event}
 use Rattle.session_engine.specs.World.{World}
-use Rattle.driver.specs.Place.{AgendaRules, agenda_rules, turn_rules}
+use Rattle.driver.specs.Place.{AgendaRules, agenda_rules, action_rules}
 use Rattle.line_agenda.specs.LinesAt.{LinesAt}
 use Rattle.line_agenda.specs.Says.{LinesSay, LinesWoken}
 use Rattle.line_agenda.specs.Heeds.{LinesHeed}
@@ -13,4 +13,4 @@ LinesJoin a w first more b = (first ≡ None) × (more ≡ []) × (b ≡ a)
 
 -- It says what is next, is given whose turn it is, and heeds what came.
 abbrev pub lines_rules : AgendaRules LinesAt
-lines_rules = agenda_rules (turn_rules LinesSay LinesWoken LinesHeed) LinesJoin
+lines_rules = agenda_rules (action_rules LinesSay LinesWoken LinesHeed) LinesJoin

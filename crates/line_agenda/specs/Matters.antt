@@ -1,4 +1,4 @@
--- What the next turn of an agenda of lines is about.
+-- What the next action of an agenda of lines is about.
 use Rattle.std.specs.Prelude.{◌≡◌, ◌⊎◌, ℕ, Bool, true, false, Option, Some, None}
 use Rattle.arrivals.specs.declared.sources.Woken.{Woken}
 use Rattle.arrivals.specs.declared.sources.Woken.TheVariants as woken

@@ -7,7 +7,7 @@ use Rattle.sheet_text.specs.declared.script.ScriptLine.TheVariants as line
 use Rattle.live.specs.declared.live_line.LiveLine.{LiveLine}
 use Rattle.live.specs.declared.live_line.LiveLine.TheVariants as live
 use Rattle.live.specs.Arrivals.{said_by}
-use Rattle.driver.specs.declared.turn.Turn.TheVariants as turn
+use Rattle.driver.specs.declared.action.Action.TheVariants as action
 use Rattle.driver.specs.Items.{Item, RunStep, chose}
 use Rattle.driver.specs.Place.{RunPlace, SinkRules, SourceRules, rules}
 use Rattle.driver.specs.Steps.{Run}
@@ -34,4 +34,4 @@ pub record IsOfTransaction (a : LinesAt) (first : ℕ) (edits : List Event) : Ty
 -- so it is in every run that begins where no transaction is open, whatever the sources and the sink are
 abbrev pub WholesAreTransactions : {C K : Type 0} → SourceRules C → SinkRules K → Type 0
 WholesAreTransactions {C = C} {K = K} sources sink = (p q : RunPlace LinesAt C K) (todo left : List Item) (before after : List RunStep) (first : ℕ) (edits : List Event)
-    → p.agenda.transaction ≡ None → Run (rules lines_rules sources sink) p todo (before ++ chose (turn.Whole first edits) ∷ after) left q → IsOfTransaction p.agenda first edits
+    → p.agenda.transaction ≡ None → Run (rules lines_rules sources sink) p todo (before ++ chose (action.Transaction first edits) ∷ after) left q → IsOfTransaction p.agenda first edits

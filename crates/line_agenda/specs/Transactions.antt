@@ -11,8 +11,8 @@ use Rattle.live.specs.declared.live_line.LiveLine.TheVariants as live
 use Rattle.live.specs.declared.holding.Hold.TheVariants as hold
 use Rattle.driver.specs.Steps.{most_together}
 use Rattle.driver.specs.declared.report.Show.TheVariants as show
-use Rattle.driver.specs.declared.turn.Turn.{Turn}
-use Rattle.driver.specs.declared.turn.Turn.TheVariants as turn
+use Rattle.driver.specs.declared.action.Action.{Action}
+use Rattle.driver.specs.declared.action.Action.TheVariants as action
 use Rattle.line_agenda.specs.declared.doing.Transaction.{Transaction}
 use Rattle.line_agenda.specs.declared.doing.LineChoice.{LineChoice}
 use Rattle.line_agenda.specs.declared.doing.Doing.{Doing}
@@ -31,16 +31,16 @@ abbrev pub broken_transaction : Transaction → Transaction
 broken_transaction b = record b { broken = true }
 
 -- this is asked for of a line, and this transaction is open then
-abbrev pub in_transaction : Turn → Doing → Option Transaction → LineChoice
-in_transaction asked done b = record { turn = asked; doing = done; held = hold.Free; transaction = b }
+abbrev pub in_transaction : Action → Doing → Option Transaction → LineChoice
+in_transaction asked done b = record { action = asked; doing = done; held = hold.Free; transaction = b }
 
 -- a line of which nothing is said or done
 abbrev pub in_silence : Transaction → LineChoice
-in_silence b = in_transaction turn.Nothing doing.Nothing (Some b)
+in_silence b = in_transaction action.Nothing doing.Nothing (Some b)
 
 -- a line that can't stand in a transaction is a bad one, and breaks it
 abbrev pub first_bad : Transaction → ℕ → LineChoice
-first_bad b number = in_transaction (turn.Show (show.Note (note.Bad number))) (doing.Line true) (Some (broken_transaction b))
+first_bad b number = in_transaction (action.Show (show.Note (note.Bad number))) (doing.Line true) (Some (broken_transaction b))
 
 -- of those after it nothing is said
 abbrev pub breaks_transaction : Transaction → ℕ → LineChoice
@@ -53,9 +53,9 @@ keeps_command b number e = cond (not b.broken && (is_edit e && nat_lt (length b.
 -- What the end of a transaction asks for, by whether it is broken, by its commands, and by the numbers of its first and its last line. Commands are taken by
 -- the numbers of their lines, which are those directly before the last. Of a broken transaction nothing is done.
 abbrev pub ends_transaction : Bool → List Event → ℕ → ℕ → LineChoice
-ends_transaction true edits first last = in_transaction (turn.Show (show.Note (note.Undone first last))) (doing.Line false) None
-ends_transaction false [] first last = in_transaction (turn.Show (show.Note (note.Nothing last))) (doing.Line false) None
-ends_transaction false (e ∷ edits) first last = in_transaction (turn.Whole (last - length (e ∷ edits)) (e ∷ edits)) (doing.Transaction first) None
+ends_transaction true edits first last = in_transaction (action.Show (show.Note (note.Undone first last))) (doing.Line false) None
+ends_transaction false [] first last = in_transaction (action.Show (show.Note (note.Nothing last))) (doing.Line false) None
+ends_transaction false (e ∷ edits) first last = in_transaction (action.Transaction (last - length (e ∷ edits)) (e ∷ edits)) (doing.Transaction first) None
 
 -- what the line with this number asks for in a transaction
 abbrev pub asked_in : Transaction → ℕ → Option LiveLine → LineChoice

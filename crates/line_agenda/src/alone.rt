@@ -6,7 +6,7 @@ ghost use Rattle.session_engine.specs.World.{World};
 ghost use Rattle.session_engine.specs.Host.{IsHost};
 ghost use Rattle.live.specs.LiveLines.{live_line_of};
 ghost use Rattle.live.specs.Saying.{IsCommand};
-ghost use Rattle.line_agenda.specs.Alone.{AsksTurn, AsksAlone, AsksCommand, BeginsWait};
+ghost use Rattle.line_agenda.specs.Alone.{AsksAction, AsksAlone, AsksCommand, BeginsWait};
 ghost use Rattle.line_agenda.specs.declared.doing.Doing.TheVariants as does;
 
 use crate::doing::{Doing, LineChoice, Transaction};
@@ -14,7 +14,7 @@ use crate::gathering::add_command;
 use crate::waits::{lacks_field, lacks_session, untimed};
 use child_edge::is_idle;
 use disk_model::Disk;
-use driver::{Show, Turn};
+use driver::{Action, Show};
 use host_events::{Command, Event};
 use live::{Hold, LiveLine, Manner, read_live_line, wait_for};
 use session_engine::{Edits, Host};
@@ -32,12 +32,12 @@ pub(crate) struct Reading {
 }
 
 /// This is asked for, of a line that says no command, which goes wrong or not.
-fn by_itself(turn: Turn, wrong: bool) -> LineChoice
-    ensures asks { AsksTurn turn result }
+fn by_itself(action: Action, wrong: bool) -> LineChoice
+    ensures asks { AsksAction action result }
     ensures doing { result.doing ≡ does.Line wrong }
 {
     LineChoice {
-        turn,
+        action,
         doing: Doing::Line(wrong),
         held: Hold::Free,
         transaction: None,
@@ -48,7 +48,7 @@ fn by_itself(turn: Turn, wrong: bool) -> LineChoice
 pub(crate) fn bad(at: Reading) -> LineChoice
     ensures { (w : World) → AsksAlone at.manner at.number w at.now None result }
 {
-    by_itself(Turn::Show(Show::Note(Note::Bad(at.number))), true)
+    by_itself(Action::Show(Show::Note(Note::Bad(at.number))), true)
 }
 
 /// A wait begins, which is over at once where no item waits.
@@ -56,10 +56,10 @@ fn begin<D: Disk>(host: &Host<D>, number: u64, begun: Hold) -> LineChoice
     ensures { (w : World) → IsHost host.now w → BeginsWait number w begun result }
 {
     if is_idle(host.looks()) {
-        by_itself(Turn::Show(Show::Note(Note::Waited(number, false))), false)
+        by_itself(Action::Show(Show::Note(Note::Waited(number, false))), false)
     } else {
         LineChoice {
-            turn: Turn::Nothing,
+            action: Action::Nothing,
             doing: Doing::Line(false),
             held: begun,
             transaction: None,
@@ -81,13 +81,13 @@ fn one_event(alloc: Global, command: Command) -> Result<Vec<Event>, AllocError>
 }
 
 /// What a command asks for: that it is taken, or that the journal is rewritten.
-fn command_turn(alloc: Global, number: u64, command: Command) -> Result<Turn, AllocError>
+fn command_action(alloc: Global, number: u64, command: Command) -> Result<Action, AllocError>
     ensures { IfOk result (AsksCommand number command) }
 {
     match command {
-        Command::Checkpoint => Ok(Turn::Checkpoint(number)),
+        Command::Checkpoint => Ok(Action::Checkpoint(number)),
         command => match one_event(alloc, command) {
-            Ok(events) => Ok(Turn::Lines(number, events)),
+            Ok(events) => Ok(Action::Lines(number, events)),
             Err(fault) => Err(fault),
         },
     }
@@ -98,9 +98,9 @@ fn choose_command(alloc: Global, at: Reading, command: Command) -> Result<LineCh
     ensures { (w : World) → IfOk result (AsksAlone at.manner at.number w at.now
         (Some (LiveLine.Script (ScriptLine.Command command)))) }
 {
-    match command_turn(alloc, at.number, command) {
-        Ok(turn) => Ok(LineChoice {
-            turn,
+    match command_action(alloc, at.number, command) {
+        Ok(action) => Ok(LineChoice {
+            action,
             doing: Doing::Commands,
             held: Hold::Free,
             transaction: None,
@@ -121,9 +121,12 @@ fn choose_script<D: Disk>(
     ensures err { OnErr result (IsCommand (Some (LiveLine.Script said))) }
 {
     match said {
-        ScriptLine::Skip => Ok(by_itself(Turn::Show(Show::Note(Note::Nothing(at.number))), false)),
+        ScriptLine::Skip => Ok(by_itself(
+            Action::Show(Show::Note(Note::Nothing(at.number))),
+            false,
+        )),
         ScriptLine::Wait => Ok(begin(host, at.number, untimed(at.manner.limit, at.now))),
-        ScriptLine::Print => Ok(by_itself(Turn::Show(Show::Sheet(at.number)), false)),
+        ScriptLine::Print => Ok(by_itself(Action::Show(Show::Sheet(at.number)), false)),
         ScriptLine::Command(command) => choose_command(alloc, at, command),
     }
 }
@@ -134,7 +137,7 @@ fn choose_interrupt<D: Disk>(host: &Host<D>, at: Reading, name: Name) -> LineCho
         → AsksAlone at.manner at.number w at.now (Some (LiveLine.Interrupt name)) result }
 {
     LineChoice {
-        turn: Turn::Interrupt(name),
+        action: Action::Interrupt(name),
         doing: Doing::Interrupt(name, lacks_session(host, name)),
         held: Hold::Free,
         transaction: None,
@@ -146,7 +149,7 @@ fn begin_transaction(alloc: Global, at: Reading) -> LineChoice
     ensures { (w : World) → AsksAlone at.manner at.number w at.now (Some LiveLine.Begin) result }
 {
     LineChoice {
-        turn: Turn::Show(Show::Note(Note::Nothing(at.number))),
+        action: Action::Show(Show::Note(Note::Nothing(at.number))),
         doing: Doing::Line(false),
         held: Hold::Free,
         transaction: Some(Transaction {
@@ -171,13 +174,13 @@ fn choose<D: Disk>(
     match said {
         LiveLine::Script(said) => choose_script(alloc, host, at, said),
         LiveLine::PrintField(id) => Ok(by_itself(
-            Turn::Show(Show::Field(at.number, id)),
+            Action::Show(Show::Field(at.number, id)),
             lacks_field(host, id),
         )),
         LiveLine::WaitFor(seconds) => Ok(begin(host, at.number, wait_for(at.now, seconds))),
         LiveLine::Interrupt(name) => Ok(choose_interrupt(host, at, name)),
         LiveLine::Export(format) => Ok(by_itself(
-            Turn::Show(Show::Export(at.number, format)),
+            Action::Show(Show::Export(at.number, format)),
             false,
         )),
         LiveLine::Begin => Ok(begin_transaction(alloc, at)),

@@ -14,7 +14,7 @@ use arrivals::{InputLines, Woken};
 use child_calls::Seat;
 use child_edge::waiting_lives;
 use disk_model::Disk;
-use driver::{Agenda, Came, MOST_COUNTED, Turn};
+use driver::{Action, Agenda, Came, MOST_COUNTED};
 use live::{Hold, Manner};
 use offline_programs::RunFault;
 use session_engine::{BufferedHost, Host, Joined, Joins};
@@ -98,29 +98,34 @@ impl<R: Read> ByLines<R> {
     }
 
     /// Interrupts this life, whose time is over.
-    fn warn(&mut self, seat: Seat) -> Turn
-        ensures turn { result ≡ Turn.Interrupt seat.name }
+    fn warn(&mut self, seat: Seat) -> Action
+        ensures action { result ≡ Action.Interrupt seat.name }
         ensures stands { lines_stand R.remaining self.new ≡ doing_now
             (lines_stand R.remaining self.old) (does.Warning seat) }
     {
         let name = seat.name;
         self.doing = Doing::Warning(seat);
-        Turn::Interrupt(name)
+        Action::Interrupt(name)
     }
 
     /// There is none to be interrupted, and two seconds more begin.
-    fn give_respite(&mut self, now: u64) -> Turn
-        ensures turn { result ≡ Turn.Nothing }
+    fn give_respite(&mut self, now: u64) -> Action
+        ensures action { result ≡ Action.Nothing }
         ensures stands { lines_stand R.remaining self.new ≡ holding
             (lines_stand R.remaining self.old)
             (saying.stop_if (self.old.manner.strict && true) (waits.warned now)) }
     {
         self.held = stop_if(self.manner.strict, true, warned(now));
-        Turn::Nothing
+        Action::Nothing
     }
 
     /// The time is over that a line may take: each life in which an item waits is interrupted, one after the other.
-    fn limit<D: Disk>(&mut self, alloc: Global, host: &Host<D>, now: u64) -> Result<Turn, RunFault>
+    fn limit<D: Disk>(
+        &mut self,
+        alloc: Global,
+        host: &Host<D>,
+        now: u64,
+    ) -> Result<Action, RunFault>
         ensures { (w : World) → self.old.late.items ≡ [] → IsHost host.now w
             → SaysLimit (lines_stand R.remaining self.old) w now result
             (lines_stand R.remaining self.new) }
@@ -136,34 +141,34 @@ impl<R: Read> ByLines<R> {
     }
 
     /// Hears this life, and others that are ready.
-    fn hear(&mut self, seat: Seat) -> Turn
-        ensures turn { result ≡ Turn.Hear seat (others self.old.manner.strict) }
+    fn hear(&mut self, seat: Seat) -> Action
+        ensures action { result ≡ Action.Hear seat (others self.old.manner.strict) }
         ensures stands { lines_stand R.remaining self.new ≡ doing_now
             (lines_stand R.remaining self.old) does.Life }
     {
         self.doing = Doing::Life;
-        Turn::Hear(seat, most_others(self.manner.strict))
+        Action::Hear(seat, most_others(self.manner.strict))
     }
 
     /// Watches the sources.
-    fn watch(&self, now: u64) -> Turn
+    fn watch(&self, now: u64) -> Action
         ensures { (there : Bool) × Readiness self.now.lines.held there
-            × (result ≡ Turn.Watch (input_at self.now.held there) (patience_at self.now.held now)) }
+            × (result ≡ Action.Watch (input_at self.now.held there) (patience_at self.now.held now)) }
     {
-        Turn::Watch(
+        Action::Watch(
             input(self.held, self.lines.is_ready()),
             patience(self.held, now),
         )
     }
 
     /// Each life in which an item waits has stalled.
-    fn stall(&mut self) -> Turn
-        ensures turn { result ≡ Turn.Stall }
+    fn stall(&mut self) -> Action
+        ensures action { result ≡ Action.Stall }
         ensures stands { lines_stand R.remaining self.new ≡ doing_now
             (lines_stand R.remaining self.old) does.Stall }
     {
         self.doing = Doing::Stall;
-        Turn::Stall
+        Action::Stall
     }
 
     /// What this matter asks for.
@@ -173,14 +178,14 @@ impl<R: Read> ByLines<R> {
         host: &Host<D>,
         now: u64,
         matter: Matter,
-    ) -> Result<Turn, RunFault>
+    ) -> Result<Action, RunFault>
         requires { self.old.number + most_together + 1 < 2 ^ 64 }
         ensures { (w : World) → self.old.late.items ≡ [] → IsHost host.now w
             → SaysMatter (lines_stand R.remaining self.old) w now matter result
             (lines_stand R.remaining self.new) }
     {
         match matter {
-            Matter::Untimely => Ok(Turn::Nothing),
+            Matter::Untimely => Ok(Action::Nothing),
             Matter::Watch => Ok(self.watch(now)),
             Matter::Input => self.take_input(alloc, host, now),
             Matter::Life(seat) => Ok(self.hear(seat)),
@@ -189,7 +194,7 @@ impl<R: Read> ByLines<R> {
         }
     }
 
-    /// What the next turn is about; what a watch returned is heeded by that.
+    /// What the next action is about; what a watch returned is heeded by that.
     fn about(&mut self, now: u64) -> Matter
         ensures about { IsMatter self.old.manner.lines_first self.old.held self.old.due now result }
         ensures stands { lines_stand R.remaining self.new ≡ heeded
@@ -200,18 +205,18 @@ impl<R: Read> ByLines<R> {
     }
 
     /// What is next.
-    fn next_turn<D: Disk>(
+    fn next_action<D: Disk>(
         &mut self,
         alloc: Global,
         host: &Host<D>,
         now: u64,
-    ) -> Result<Turn, RunFault>
+    ) -> Result<Action, RunFault>
         ensures { (w : World) → IsHost host.now w
             → LinesSay (lines_stand R.remaining self.old) w now result
             (lines_stand R.remaining self.new) }
     {
         if is_stopped(self.held) {
-            return Ok(Turn::End);
+            return Ok(Action::End);
         }
         if self.number > MOST_COUNTED {
             return Err(RunFault::InputTooLong);
@@ -241,18 +246,23 @@ impl<R: Read> Joins for ByLines<R> {
 }
 
 impl<R: Read> Agenda for ByLines<R> {
-    ghost use Rattle.driver.specs.Place.{turn_rules};
+    ghost use Rattle.driver.specs.Place.{action_rules};
     ghost use Rattle.line_agenda.specs.LinesAt.{lines_stand};
     ghost use Rattle.line_agenda.specs.Says.{LinesSay, LinesWoken};
     ghost use Rattle.line_agenda.specs.Heeds.{LinesHeed};
 
-    ghost rules = { turn_rules
+    ghost rules = { action_rules
         (λ a w now answer b. LinesSay (lines_stand R.remaining a) w now answer (lines_stand R.remaining b))
         (λ a woken b. LinesWoken (lines_stand R.remaining a) woken (lines_stand R.remaining b))
         (λ a w now came note b. LinesHeed (lines_stand R.remaining a) w now came note (lines_stand R.remaining b)) };
 
-    fn next<D: Disk>(&mut self, alloc: Global, host: &Host<D>, now: u64) -> Result<Turn, RunFault> {
-        self.next_turn(alloc, host, now)
+    fn next<D: Disk>(
+        &mut self,
+        alloc: Global,
+        host: &Host<D>,
+        now: u64,
+    ) -> Result<Action, RunFault> {
+        self.next_action(alloc, host, now)
     }
 
     fn wake(&mut self, woken: Woken) {

@@ -1,7 +1,7 @@
 //! What is being done, of what an agenda asked for.
 
 use child_calls::Seat;
-use driver::Turn;
+use driver::Action;
 use live::Hold;
 use session_engine::Edits;
 use worksheet::Name;
@@ -41,7 +41,7 @@ pub struct Transaction {
 /// What a line asks for, what is done then, the wait that holds back the lines after it, and the transaction that is open then.
 #[derive(Drop)]
 pub struct LineChoice {
-    pub turn: Turn,
+    pub action: Action,
     pub doing: Doing,
     pub held: Hold,
     pub transaction: Option<Transaction>,

@@ -1,4 +1,4 @@
-//! What an agenda of lines makes of what came: which wait goes on after a turn, and what is noted.
+//! What an agenda of lines makes of what came: which wait goes on after an action, and what is noted.
 ghost use Rattle.std.specs.Prelude.{◌≡◌, ◌++◌, ◌&&◌, ◌||◌, Some, true, false};
 ghost use Rattle.std.specs.List.{list_any};
 ghost use Rattle.session_engine.specs.World.{World};
@@ -113,7 +113,7 @@ fn went_wrong(came: &Came) -> bool
     }
 }
 
-/// What came of an interrupt, where the turn was one.
+/// What came of an interrupt, where the action was one.
 pub fn interrupt_of(came: &Came) -> Option<Interrupted>
     ensures { result ≡ (came_of came.now).interrupted }
 {

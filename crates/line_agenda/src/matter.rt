@@ -1,4 +1,4 @@
-//! What the next turn is about.
+//! What the next action is about.
 ghost use Rattle.std.specs.Prelude.{◌≡◌};
 ghost use Rattle.live.specs.Saying.{IsTimed};
 ghost use Rattle.line_agenda.specs.Matters as matters;
@@ -9,7 +9,7 @@ use arrivals::Woken;
 use child_calls::Seat;
 use live::Hold;
 
-/// What the next turn is about.
+/// What the next action is about.
 #[derive(Clone, Copy, Debug)]
 pub enum Matter {
     /// Nothing: what a watch returned can't come now.
@@ -61,7 +61,7 @@ fn unwatched(lines_first: bool, held: Hold, now: u64) -> Matter
     Matter::Watch
 }
 
-/// What the next turn is about, where lines come first or not, by the wait, by what a watch returned, and by what the clock reads.
+/// What the next action is about, where lines come first or not, by the wait, by what a watch returned, and by what the clock reads.
 pub(crate) fn matter_of(lines_first: bool, held: Hold, due: Option<Woken>, now: u64) -> Matter
     ensures { IsMatter lines_first held due now result }
 {

@@ -12,7 +12,7 @@ use crate::gathering::gather;
 use crate::transactions::{break_at, choose_in_transaction};
 use arrivals::NextLine;
 use disk_model::Disk;
-use driver::{Show, Turn};
+use driver::{Action, Show};
 use host_events::Event;
 use offline_programs::RunFault;
 use session_engine::Host;
@@ -28,27 +28,27 @@ impl<R: Read> ByLines<R> {
     ghost use Rattle.offline_programs.specs.declared.fault.RunFault.TheVariants as fault;
 
     /// These commands of lines that were there together are taken as one group.
-    fn group(&mut self, events: Vec<Event>, count: u64) -> Turn
+    fn group(&mut self, events: Vec<Event>, count: u64) -> Action
         requires { self.old.number + count + 1 < 2 ^ 64 }
-        ensures turn { AsksLines (self.old.number + 1) events.items result }
+        ensures action { AsksLines (self.old.number + 1) events.items result }
         ensures stands { lines_stand R.remaining self.new ≡ after_group
             (lines_stand R.remaining self.old) count }
     {
         let first = self.number + 1;
         self.number += count;
         self.doing = Doing::Commands;
-        Turn::Lines(first, events)
+        Action::Lines(first, events)
     }
 
     /// This was chosen for the next line.
-    fn follow(&mut self, chosen: LineChoice) -> Turn
+    fn follow(&mut self, chosen: LineChoice) -> Action
         requires { self.old.number + 1 < 2 ^ 64 }
-        ensures turn { result ≡ chosen.turn }
+        ensures action { result ≡ chosen.action }
         ensures stands { lines_stand R.remaining self.new ≡ after_line
             (lines_stand R.remaining self.old) chosen }
     {
         let LineChoice {
-            turn,
+            action,
             doing,
             held,
             transaction,
@@ -57,7 +57,7 @@ impl<R: Read> ByLines<R> {
         self.doing = doing;
         self.held = held;
         self.transaction = transaction;
-        turn
+        action
     }
 
     /// How the next line is taken.
@@ -92,7 +92,7 @@ impl<R: Read> ByLines<R> {
         alloc: Global,
         host: &Host<D>,
         now: u64,
-    ) -> Result<Turn, RunFault>
+    ) -> Result<Action, RunFault>
         requires { self.old.number + 1 < 2 ^ 64 }
         ensures { (w : World) → IsHost host.now w
             → TakesGivenLine (with_transaction (lines_stand R.remaining self.old) None) w now
@@ -111,7 +111,7 @@ impl<R: Read> ByLines<R> {
         alloc: Global,
         now: u64,
         transaction: Transaction,
-    ) -> Result<Turn, RunFault>
+    ) -> Result<Action, RunFault>
         requires { self.old.number + 1 < 2 ^ 64 }
         ensures { (w : World) → TakesGivenLine (with_transaction (lines_stand R.remaining self.old)
             (Some transaction)) w now (live_line_of self.old.lines.held.line) result
@@ -130,7 +130,7 @@ impl<R: Read> ByLines<R> {
         alloc: Global,
         host: &Host<D>,
         now: u64,
-    ) -> Result<Turn, RunFault>
+    ) -> Result<Action, RunFault>
         requires { self.old.number + 1 < 2 ^ 64 }
         ensures { (w : World) → IsHost host.now w
             → TakesGivenLine (lines_stand R.remaining self.old) w now
@@ -143,7 +143,7 @@ impl<R: Read> ByLines<R> {
     }
 
     /// Takes a line that is too long.
-    fn take_too_long(&mut self, now: u64) -> Turn
+    fn take_too_long(&mut self, now: u64) -> Action
         requires { self.old.number + 1 < 2 ^ 64 }
         ensures { (w : World) → TakesAlone (lines_stand R.remaining self.old) w now None result
             (lines_stand R.remaining self.new) }
@@ -156,26 +156,26 @@ impl<R: Read> ByLines<R> {
     }
 
     /// The input is at its end: of a transaction that is open nothing is done.
-    fn end_input(&mut self) -> Turn
+    fn end_input(&mut self) -> Action
         ensures { EndsInput self.old.transaction (lines_stand R.remaining self.old) result
             (lines_stand R.remaining self.new) }
     {
         match mem::replace(&mut self.transaction, None) {
-            None => Turn::End,
+            None => Action::End,
             Some(transaction) => {
                 self.doing = Doing::Line(true);
-                Turn::Show(Show::Note(Note::Undone(transaction.first, self.number)))
+                Action::Show(Show::Note(Note::Undone(transaction.first, self.number)))
             }
         }
     }
 
     /// Reads more of the input.
-    fn read_on(&mut self) -> Result<Turn, RunFault>
+    fn read_on(&mut self) -> Result<Action, RunFault>
         ensures { ReadsOn (lines_stand R.remaining self.old) result
             (lines_stand R.remaining self.new) }
     {
         match self.lines.fill() {
-            Ok(()) => Ok(Turn::Nothing),
+            Ok(()) => Ok(Action::Nothing),
             Err(_) => Err(RunFault::Input),
         }
     }
@@ -186,7 +186,7 @@ impl<R: Read> ByLines<R> {
         alloc: Global,
         host: &Host<D>,
         now: u64,
-    ) -> Result<Turn, RunFault>
+    ) -> Result<Action, RunFault>
         requires { self.old.number + 1 < 2 ^ 64 }
         ensures { (w : World) → IsHost host.now w
             → TakesInput (lines_stand R.remaining self.old) w now result
@@ -217,7 +217,7 @@ impl<R: Read> ByLines<R> {
         alloc: Global,
         host: &Host<D>,
         now: u64,
-    ) -> Result<Turn, RunFault>
+    ) -> Result<Action, RunFault>
         requires { self.old.number + most_together + 1 < 2 ^ 64 }
         ensures { (w : World) → IsHost host.now w
             → TakesInput (lines_stand R.remaining self.old) w now result

@@ -11,7 +11,7 @@ ghost use Rattle.line_agenda.specs.Heeds as heeds;
 
 use crate::doing::{Doing, LineChoice, Transaction};
 use child_edge::MOST_TOGETHER;
-use driver::{Came, Show, Turn};
+use driver::{Action, Came, Show};
 use host_events::{Command, Outcome};
 use live::{Hold, LiveLine, read_live_line};
 use session_engine::{AddFault, is_refusal};
@@ -20,11 +20,11 @@ use std::alloc::{AllocError, Global};
 use tellings::Note;
 
 /// This is asked for of a line, and this transaction is open then.
-fn in_transaction(turn: Turn, doing: Doing, transaction: Option<Transaction>) -> LineChoice
-    ensures { result ≡ transactions.in_transaction turn doing transaction }
+fn in_transaction(action: Action, doing: Doing, transaction: Option<Transaction>) -> LineChoice
+    ensures { result ≡ transactions.in_transaction action doing transaction }
 {
     LineChoice {
-        turn,
+        action,
         doing,
         held: Hold::Free,
         transaction,
@@ -35,7 +35,7 @@ fn in_transaction(turn: Turn, doing: Doing, transaction: Option<Transaction>) ->
 fn in_silence(transaction: Transaction) -> LineChoice
     ensures { result ≡ transactions.in_silence transaction }
 {
-    in_transaction(Turn::Nothing, Doing::Nothing, Some(transaction))
+    in_transaction(Action::Nothing, Doing::Nothing, Some(transaction))
 }
 
 /// A line that can't stand in a transaction.
@@ -48,7 +48,7 @@ pub(crate) fn break_at(transaction: Transaction, number: u64) -> LineChoice
     let mut transaction = transaction;
     transaction.broken = true;
     in_transaction(
-        Turn::Show(Show::Note(Note::Bad(number))),
+        Action::Show(Show::Note(Note::Bad(number))),
         Doing::Line(true),
         Some(transaction),
     )
@@ -74,10 +74,10 @@ fn keep(transaction: Transaction, number: u64, command: Command) -> Result<LineC
 
 /// The end of a transaction of which nothing is taken: this is noted.
 fn end_with(note: Note) -> LineChoice
-    ensures { result ≡ transactions.in_transaction (Turn.Show (Show.Note note))
+    ensures { result ≡ transactions.in_transaction (Action.Show (Show.Note note))
         (Doing.Line false) None }
 {
-    in_transaction(Turn::Show(Show::Note(note)), Doing::Line(false), None)
+    in_transaction(Action::Show(Show::Note(note)), Doing::Line(false), None)
 }
 
 /// The end of a transaction.
@@ -97,7 +97,11 @@ fn end(transaction: Transaction, last: u64) -> LineChoice
         return end_with(Note::Nothing(last));
     }
     let number = last.saturating_sub(edits.len() as u64);
-    in_transaction(Turn::Whole(number, edits), Doing::Transaction(first), None)
+    in_transaction(
+        Action::Transaction(number, edits),
+        Doing::Transaction(first),
+        None,
+    )
 }
 
 /// What a line of a script asks for in a transaction.

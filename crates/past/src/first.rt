@@ -11,7 +11,6 @@ ghost use Rattle.past.specs.declared.fault.PastFault.TheVariants as past;
 ghost use Rattle.offline_programs.specs.declared.fault.RunFault.TheVariants as reported;
 ghost use Rattle.recovery.specs.Rescued.{disk_rescued};
 ghost use Rattle.recovery.specs.Sheets.{Makes};
-ghost use Rattle.recovery.specs.inside.Rescuing.{Stops};
 ghost use Rattle.recovery.specs.inside.Taken.{Refuses, TakesOps};
 ghost use Rattle.worksheet.specs.declared.op.Op.{Op};
 
@@ -20,7 +19,7 @@ use crate::changes::{do_op, op_of};
 use disk_model::Disk;
 use journal::{Front, InFront, OpenCause, OpenFault, Payload};
 use offline_programs::RunFault;
-use recovery::{Rescued, longest_rescue};
+use recovery::{Rescued, end_rescue, longest_rescue};
 use std::alloc::Global;
 use worksheet::Sheet;
 
@@ -46,27 +45,6 @@ fn take(alloc: Global, sheet: &mut Sheet, payload: &Payload) -> Result<(), OpenC
     match op_of(alloc, sheet, payload) {
         Ok(op) => do_op(sheet, op),
         Err(cause) => Err(cause),
-    }
-}
-
-/// Ends at a payload that isn't taken: where it is refused, what was taken before is kept.
-fn stop<D: Disk>(
-    disk: D,
-    sheet: Sheet,
-    kept: u64,
-    cause: OpenCause,
-) -> Result<Rescued<D>, OpenFault<D>>
-    ensures stops { Stops disk sheet kept cause result }
-    ensures disk { disk_rescued D.view result ≡ D.view disk }
-{
-    match cause {
-        OpenCause::Damaged(gate) => Ok(Rescued {
-            disk,
-            sheet,
-            kept,
-            damage: Some(gate),
-        }),
-        _ => Err(OpenFault { cause, disk }),
     }
 }
 
@@ -102,7 +80,7 @@ fn take_first<D: Disk>(
         match front.next() {
             Ok(InFront::Payload(following, payload)) => {
                 if let Err(cause) = take(alloc, &mut sheet, &payload) {
-                    return stop(following.into_disk(), sheet, kept, cause);
+                    return end_rescue(following.into_disk(), sheet, kept, cause);
                 }
                 front = following;
                 kept += 1;

@@ -10,7 +10,7 @@ use Rattle.arrivals.specs.declared.sources.Woken.{Woken}
 use Rattle.live.specs.declared.holding.Hold.{Hold}
 use Rattle.live.specs.declared.holding.Hold.TheVariants as hold
 use Rattle.live.specs.declared.manner.Manner.{Manner}
-use Rattle.driver.specs.Place.{AgendaRules, Rules, SourceRules, agenda_rules, rules, turn_rules}
+use Rattle.driver.specs.Place.{AgendaRules, Rules, SourceRules, agenda_rules, rules, action_rules}
 use Rattle.driver.specs.Noted.{PrintedSoFar, noting_rules, printed_so_far}
 use Rattle.driver.specs.Over.{Over, ProgramParts, program_parts}
 use Rattle.driver.proofs.Seen.{over_seen}
@@ -53,7 +53,7 @@ before_lines {I = I} remaining a m lines input manner number held what due close
 -- A driver of lines that prints with a voice on a stream.
 
 abbrev given_agenda : {I : Type 0} → (I → Option (List ℕ)) → AgendaRules (ByLines I)
-given_agenda remaining = agenda_rules (turn_rules (λ a w now answer b. LinesSay (lines_stand remaining a) w now answer (lines_stand remaining b))
+given_agenda remaining = agenda_rules (action_rules (λ a w now answer b. LinesSay (lines_stand remaining a) w now answer (lines_stand remaining b))
     (λ a woken b. LinesWoken (lines_stand remaining a) woken (lines_stand remaining b))
     (λ a w now came note b. LinesHeed (lines_stand remaining a) w now came note (lines_stand remaining b)))
     (λ a w first more b. LinesJoin (lines_stand remaining a) w first more (lines_stand remaining b))

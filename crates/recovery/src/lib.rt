@@ -30,7 +30,7 @@ pub use laws::{
     received_answers_fit, rescue_of_whole, rewrites_are_short, sheet_image_opens,
 };
 pub use reading::{DecodeFault, decode};
-pub use rescuing::{Rescued, rescue};
+pub use rescuing::{Rescued, end_rescue, rescue};
 pub use saving::{SaveCause, SaveFault, save};
 pub use size::code_len;
 pub use store::Store;

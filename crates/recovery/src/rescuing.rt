@@ -59,7 +59,7 @@ fn take_front<D: Disk>(alloc: Global, front: Front<D>) -> Result<Rescued<D>, Ope
         match front.next() {
             Ok(InFront::Payload(following, payload)) => {
                 if let Err(cause) = take(alloc, &mut sheet, &mut room, &payload) {
-                    return stop(following.into_disk(), sheet, kept, cause);
+                    return end_rescue(following.into_disk(), sheet, kept, cause);
                 }
                 front = following;
                 kept += 1;
@@ -77,8 +77,8 @@ fn take_front<D: Disk>(alloc: Global, front: Front<D>) -> Result<Rescued<D>, Ope
     }
 }
 
-// Ends a rescue at a payload that isn't taken: where it is refused, what was taken before is kept.
-fn stop<D: Disk>(
+/// Ends a rescue at a payload that isn't taken: where it is refused, what was taken before is kept.
+pub fn end_rescue<D: Disk>(
     disk: D,
     sheet: Sheet,
     kept: u64,

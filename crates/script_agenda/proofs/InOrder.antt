@@ -9,7 +9,7 @@ use Rattle.sheet_text.specs.Script.{line_of}
 use Rattle.sheet_text.specs.declared.script.ScriptLine.{ScriptLine}
 use Rattle.sheet_text.specs.declared.script.ScriptLine.TheVariants as line
 use Rattle.offline_programs.specs.declared.fault.RunFault.{RunFault}
-use Rattle.driver.specs.declared.turn.Turn.{Turn}
+use Rattle.driver.specs.declared.action.Action.{Action}
 use Rattle.driver.specs.Items.{Item, RunStep}
 use Rattle.driver.specs.Place.{RunPlace, SinkRules, SourceRules, rules}
 use Rattle.driver.specs.Steps.{Fails, Goes, Run}
@@ -29,24 +29,24 @@ in_order_on a b c first last = record { taken = first.taken ++ last.taken; are =
 same_left : (a b c : ScriptAt) → c ≡ b → b.lines ≡ a.lines → TookLines a c
 same_left a b c is same = none_taken a c (ap (λ (x : ScriptAt). x.lines) is ∙ same)
 
-of_turn : (l : Option ScriptLine) (a : ScriptAt) (t : Turn) (b : ScriptAt) → LineAsks l a t b → b.lines ≡ a.lines
-of_turn None a t b asks = ap (λ (x : ScriptAt). x.lines) asks.1
-of_turn (Some line.Skip) a t b asks = ap (λ (x : ScriptAt). x.lines) asks.1
-of_turn (Some (line.Command c)) a t b asks = ap (λ (x : ScriptAt). x.lines) asks.1
-of_turn (Some line.Wait) a t b asks = ap (λ (x : ScriptAt). x.lines) asks.1
-of_turn (Some line.Print) a t b asks = ap (λ (x : ScriptAt). x.lines) asks.1
+of_action : (l : Option ScriptLine) (a : ScriptAt) (t : Action) (b : ScriptAt) → LineAsks l a t b → b.lines ≡ a.lines
+of_action None a t b asks = ap (λ (x : ScriptAt). x.lines) asks.1
+of_action (Some line.Skip) a t b asks = ap (λ (x : ScriptAt). x.lines) asks.1
+of_action (Some (line.Command c)) a t b asks = ap (λ (x : ScriptAt). x.lines) asks.1
+of_action (Some line.Wait) a t b asks = ap (λ (x : ScriptAt). x.lines) asks.1
+of_action (Some line.Print) a t b asks = ap (λ (x : ScriptAt). x.lines) asks.1
 
-of_line : (l : Option ScriptLine) (a : ScriptAt) (r : Result Turn RunFault) (b : ScriptAt) → TakesOneLine l a r b → b.lines ≡ a.lines
-of_line l a (Ok t) b takes = of_turn l a t b takes
+of_line : (l : Option ScriptLine) (a : ScriptAt) (r : Result Action RunFault) (b : ScriptAt) → TakesOneLine l a r b → b.lines ≡ a.lines
+of_line l a (Ok t) b takes = of_action l a t b takes
 of_line l a (Err why) b takes = ap (λ (x : ScriptAt). x.lines) takes.2
 
-of_wait : (a : ScriptAt) (w : World) (rounds : ℕ) (r : Result Turn RunFault) (b : ScriptAt) → WaitSays a w rounds r b → TookLines a b
+of_wait : (a : ScriptAt) (w : World) (rounds : ℕ) (r : Result Action RunFault) (b : ScriptAt) → WaitSays a w rounds r b → TookLines a b
 of_wait a w rounds r b (next_life seat rest round is same) = same_left a _ b same refl
 of_wait a w rounds r b (next_round seat rest round few waiting is same) = same_left a _ b same refl
 of_wait a w rounds r b (wait_over round over is same) = same_left a _ b same refl
 of_wait a w rounds r b (unlisted is same) = same_left a _ b same refl
 
-of_lines : (a : ScriptAt) (r : Result Turn RunFault) (b : ScriptAt) → SaysOfLines a r b → TookLines a b
+of_lines : (a : ScriptAt) (r : Result Action RunFault) (b : ScriptAt) → SaysOfLines a r b → TookLines a b
 of_lines a r b (at_end none is same) = same_left a _ b same refl
 of_lines a r b (stopped wrong is same) = same_left a _ b same refl
 of_lines a r b (uncounted many is same) = same_left a _ b same refl
@@ -54,7 +54,7 @@ of_lines a r b (as_group going takes) = record { taken = takes.gathers.given; ar
 of_lines a r b (skips rest number going gathers more count is same) = record { taken = gathers.given; are = gathers.split ∙ ap (λ (l : List (List ℕ)). gathers.given ++ l) (sym (ap (λ (x : ScriptAt). x.lines) same)) }
 of_lines a r b (by_itself l rest going next takes) = record { taken = l ∷ []; are = next ∙ ap (λ (ls : List (List ℕ)). l ∷ ls) (sym (of_line (line_of l) (after_one_line a rest) r b takes)) }
 
-of_saying : (wait : Option ℕ) (a : ScriptAt) (w : World) (r : Result Turn RunFault) (b : ScriptAt) → SaysIn wait a w r b → TookLines a b
+of_saying : (wait : Option ℕ) (a : ScriptAt) (w : World) (r : Result Action RunFault) (b : ScriptAt) → SaysIn wait a w r b → TookLines a b
 of_saying None a w r b said = of_lines a r b said
 of_saying (Some rounds) a w r b said = of_wait a w rounds r b said
 

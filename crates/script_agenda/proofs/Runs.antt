@@ -2,7 +2,7 @@
 use Rattle.std.proofs.Common.{◌≡◌, ◌≤◌, ℕ, Bool, true, false, List, length, subst}
 use Rattle.std.specs.Prelude.{IfSome, Option, Result}
 use Rattle.disk_model.specs.Disk.{DiskView}
-use Rattle.driver.specs.Place.{AgendaRules, Rules, SourceRules, agenda_rules, rules, turn_rules}
+use Rattle.driver.specs.Place.{AgendaRules, Rules, SourceRules, agenda_rules, rules, action_rules}
 use Rattle.driver.specs.Noted.{PrintedSoFar, noting_rules, printed_so_far}
 use Rattle.driver.specs.Over.{Over, ProgramParts, program_parts}
 use Rattle.driver.proofs.Seen.{over_seen}
@@ -19,7 +19,7 @@ use Rattle.script_agenda.specs.ScriptRules.{ScriptHeeds, ScriptJoins, ScriptWoke
 use Rattle.script_agenda.proofs.OwnFaults.{own_faults}
 
 abbrev given_agenda : AgendaRules ByScript
-given_agenda = agenda_rules (turn_rules (λ a w now answer b. ScriptSays (script_stand a) w now answer (script_stand b))
+given_agenda = agenda_rules (action_rules (λ a w now answer b. ScriptSays (script_stand a) w now answer (script_stand b))
     (λ a woken b. ScriptWoken (script_stand a) woken (script_stand b))
     (λ a w now came note b. ScriptHeeds (script_stand a) w now came note (script_stand b)))
     (λ a w first more b. ScriptJoins (script_stand a) w first more (script_stand b))

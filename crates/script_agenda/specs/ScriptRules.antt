@@ -6,7 +6,7 @@ use Rattle.session_engine.specs.World.{World}
 use Rattle.arrivals.specs.declared.sources.Woken.{Woken}
 use Rattle.live.specs.Wrong.{is_wrong}
 use Rattle.tellings.specs.declared.note.Note.{Note}
-use Rattle.driver.specs.Place.{AgendaRules, agenda_rules, turn_rules}
+use Rattle.driver.specs.Place.{AgendaRules, agenda_rules, action_rules}
 use Rattle.driver.specs.Reports.{TurnCame}
 use Rattle.script_agenda.specs.Says.{ScriptSays}
 use Rattle.script_agenda.specs.ScriptAt.{ScriptAt}
@@ -35,4 +35,4 @@ abbrev pub ScriptHeeds : ScriptAt → World → ℕ → TurnCame → Option Note
 ScriptHeeds a w now c n b = (n ≡ None) × (b ≡ after_heeding a c)
 
 abbrev pub script_rules : AgendaRules ScriptAt
-script_rules = agenda_rules (turn_rules ScriptSays ScriptWoken ScriptHeeds) ScriptJoins
+script_rules = agenda_rules (action_rules ScriptSays ScriptWoken ScriptHeeds) ScriptJoins

@@ -6,7 +6,7 @@ use arrivals::Woken;
 use bstr::Lines;
 use child_calls::Seat;
 use disk_model::Disk;
-use driver::{Agenda, Came, Turn};
+use driver::{Action, Agenda, Came};
 use offline_programs::RunFault;
 use session_engine::{BufferedHost, Host, Joined, Joins};
 use std::alloc::Global;
@@ -85,12 +85,12 @@ impl<'a> Joins for ByScript<'a> {
 }
 
 impl<'a> Agenda for ByScript<'a> {
-    ghost use Rattle.driver.specs.Place.{turn_rules};
+    ghost use Rattle.driver.specs.Place.{action_rules};
     ghost use Rattle.script_agenda.specs.ScriptAt.{script_stand};
     ghost use Rattle.script_agenda.specs.Says.{ScriptSays};
     ghost use Rattle.script_agenda.specs.ScriptRules.{ScriptHeeds, ScriptWoken};
 
-    ghost rules = { turn_rules
+    ghost rules = { action_rules
         (λ a w now answer b. ScriptSays (script_stand a) w now answer (script_stand b))
         (λ a woken b. ScriptWoken (script_stand a) woken (script_stand b))
         (λ a w now came note b. ScriptHeeds (script_stand a) w now came note (script_stand b)) };
@@ -100,8 +100,8 @@ impl<'a> Agenda for ByScript<'a> {
         alloc: Global,
         host: &Host<D>,
         _now: u64,
-    ) -> Result<Turn, RunFault> {
-        self.next_turn(alloc, host)
+    ) -> Result<Action, RunFault> {
+        self.next_action(alloc, host)
     }
 
     // The sources aren't watched.

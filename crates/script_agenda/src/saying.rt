@@ -8,9 +8,9 @@ ghost use Rattle.script_agenda.specs.Says as says;
 use crate::by_script::ByScript;
 use crate::gathering::{gather, pass, peek};
 use child_calls::Seat;
-use child_edge::{MOST_TURNS, waiting_lives};
+use child_edge::{MOST_ROUNDS, waiting_lives};
 use disk_model::Disk;
-use driver::{Show, Turn, stalled};
+use driver::{Action, Show, stalled};
 use host_events::Event;
 use offline_programs::RunFault;
 use session_engine::Host;
@@ -19,13 +19,13 @@ use std::alloc::Global;
 use tellings::Note;
 
 /// What is asked for of a life in the round with this number.
-fn ask_life(rounds: u32, seat: Seat) -> Turn
+fn ask_life(rounds: u32, seat: Seat) -> Action
     ensures { result ≡ says.asks_life rounds seat }
 {
-    if rounds <= MOST_TURNS {
-        Turn::Receive(seat)
+    if rounds <= MOST_ROUNDS {
+        Action::Receive(seat)
     } else {
-        Turn::Alone(stalled(seat))
+        Action::Alone(stalled(seat))
     }
 }
 
@@ -52,13 +52,13 @@ impl<'a> ByScript<'a> {
         alloc: Global,
         host: &Host<D>,
         rounds: u32,
-    ) -> Result<Turn, RunFault>
+    ) -> Result<Action, RunFault>
         ensures { (w : World) → self.old.round.items ≡ [] → IsHost host.now w
             → WaitSays (script_stand self.old) w rounds result (script_stand self.new) }
     {
-        if rounds > MOST_TURNS {
+        if rounds > MOST_ROUNDS {
             self.wait = None;
-            return Ok(Turn::Nothing);
+            return Ok(Action::Nothing);
         }
         let Ok(seats) = waiting_lives(alloc, host) else {
             return Err(RunFault::OutOfMemory);
@@ -71,7 +71,7 @@ impl<'a> ByScript<'a> {
             }
             None => {
                 self.wait = None;
-                Ok(Turn::Nothing)
+                Ok(Action::Nothing)
             }
         }
     }
@@ -82,7 +82,7 @@ impl<'a> ByScript<'a> {
         alloc: Global,
         host: &Host<D>,
         rounds: u32,
-    ) -> Result<Turn, RunFault>
+    ) -> Result<Action, RunFault>
         ensures { (w : World) → IsHost host.now w
             → WaitSays (script_stand self.old) w rounds result (script_stand self.new) }
     {
@@ -93,22 +93,22 @@ impl<'a> ByScript<'a> {
     }
 
     /// What the line that was taken last asks for.
-    fn ask(&mut self, line: ScriptLine) -> Turn
+    fn ask(&mut self, line: ScriptLine) -> Action
         ensures { LineAsks (Some line) (script_stand self.old) result (script_stand self.new) }
     {
         match line {
-            ScriptLine::Skip => Turn::Nothing,
-            ScriptLine::Print => Turn::Show(Show::Sheet(self.number)),
+            ScriptLine::Skip => Action::Nothing,
+            ScriptLine::Print => Action::Show(Show::Sheet(self.number)),
             ScriptLine::Wait => {
                 self.wait = Some(0);
-                Turn::Nothing
+                Action::Nothing
             }
-            ScriptLine::Command(command) => Turn::Alone(Event::Command(command)),
+            ScriptLine::Command(command) => Action::Alone(Event::Command(command)),
         }
     }
 
     /// Takes this line by itself, which was read.
-    fn take_line(&mut self, alloc: Global, line: &[u8]) -> Result<Turn, RunFault>
+    fn take_line(&mut self, alloc: Global, line: &[u8]) -> Result<Action, RunFault>
         ensures { TakesOneLine (line_of line.now) (script_stand self.old) result
             (script_stand self.new) }
     {
@@ -116,19 +116,19 @@ impl<'a> ByScript<'a> {
             Ok(line) => Ok(self.ask(line)),
             Err(LineFault::BadLine) => {
                 self.wrong = true;
-                Ok(Turn::Show(Show::Note(Note::Bad(self.number))))
+                Ok(Action::Show(Show::Note(Note::Bad(self.number))))
             }
             Err(LineFault::OutOfMemory) => Err(RunFault::OutOfMemory),
         }
     }
 
     /// Takes the next line by itself.
-    fn take_next(&mut self, alloc: Global) -> Result<Turn, RunFault>
+    fn take_next(&mut self, alloc: Global) -> Result<Action, RunFault>
         ensures { (self.old.strict && self.old.wrong) ≡ false
             → SaysOfLines (script_stand self.old) result (script_stand self.new) }
     {
         let Some(line) = peek(&self.lines) else {
-            return Ok(Turn::End);
+            return Ok(Action::End);
         };
         if self.number == u64::MAX {
             return Err(RunFault::InputTooLong);
@@ -140,7 +140,7 @@ impl<'a> ByScript<'a> {
     }
 
     /// Takes the next lines as one group, or the next one by itself.
-    fn take_lines(&mut self, alloc: Global) -> Result<Turn, RunFault>
+    fn take_lines(&mut self, alloc: Global) -> Result<Action, RunFault>
         ensures { (self.old.strict && self.old.wrong) ≡ false
             → SaysOfLines (script_stand self.old) result (script_stand self.new) }
     {
@@ -149,21 +149,21 @@ impl<'a> ByScript<'a> {
         if !edits.is_empty() {
             self.group = edits.len() as u64;
             self.wrong = false;
-            return Ok(Turn::Edits(self.strict, edits));
+            return Ok(Action::Edits(self.strict, edits));
         }
         if self.number != before {
             self.wrong = false;
-            return Ok(Turn::Nothing);
+            return Ok(Action::Nothing);
         }
         self.take_next(alloc)
     }
 
     /// What is next.
-    pub(crate) fn next_turn<D: Disk>(
+    pub(crate) fn next_action<D: Disk>(
         &mut self,
         alloc: Global,
         host: &Host<D>,
-    ) -> Result<Turn, RunFault>
+    ) -> Result<Action, RunFault>
         ensures { (w : World) → IsHost host.now w
             → ScriptSays (script_stand self.old) w 0 result (script_stand self.new) }
     {
@@ -171,7 +171,7 @@ impl<'a> ByScript<'a> {
             return self.next_life(alloc, host, rounds);
         }
         if self.is_stopped() {
-            return Ok(Turn::End);
+            return Ok(Action::End);
         }
         self.take_lines(alloc)
     }

@@ -1,7 +1,7 @@
 //! Requests of completions.
 ghost use Rattle.std.specs.Prelude.{◌≡◌, true, false, IfOk, IfErr, OnOk};
 ghost use Rattle.std.specs.Result.{result_err};
-ghost use Rattle.std.specs.Str.{IsCharBoundary, is_utf8};
+ghost use Rattle.std.specs.Str.{IsCharBoundary};
 ghost use Rattle.worksheet.specs.Checks.{is_input as input_test};
 ghost use Rattle.plugin_core.specs.Items.{IsAskable};
 ghost use Rattle.plugin_core.specs.declared.item.Item.TheVariants as item_of;
@@ -12,7 +12,7 @@ use disk_model::Disk;
 use host_events::Outcome;
 use plugin_core::Item;
 use worksheet::check::is_input;
-use worksheet::{Field, Name, Refusal};
+use worksheet::{Field, Name, Refusal, text_of};
 
 /// The request of completions at a cursor of a field's input.
 fn request_of(field: &Field, cursor: u32) -> Result<Item, OutOfMemory>
@@ -24,17 +24,6 @@ fn request_of(field: &Field, cursor: u32) -> Result<Item, OutOfMemory>
         text,
         cursor: cursor as usize,
     })
-}
-
-/// The text of bytes that are UTF-8, in their buffer.
-fn text_of(bytes: Octets) -> Text
-    requires { is_utf8 bytes ≡ true }
-    ensures { result ≡ bytes }
-{
-    match String::from_utf8(bytes.into_vec()) {
-        Ok(text) => Text::from_string(text),
-        Err(_) => unreachable!(),
-    }
 }
 
 /// The text of an input, or that these bytes are none.

@@ -13,8 +13,8 @@ use Rattle.child_edge.specs.Reported.{reported}
 use Rattle.offline_programs.specs.declared.fault.RunFault.{RunFault}
 use Rattle.offline_programs.specs.declared.fault.RunFault.TheVariants as fault
 use Rattle.tellings.specs.declared.note.Note.{Note}
-use Rattle.driver.specs.declared.turn.Turn.{Turn}
-use Rattle.driver.specs.declared.turn.Turn.TheVariants as turn
+use Rattle.driver.specs.declared.action.Action.{Action}
+use Rattle.driver.specs.declared.action.Action.TheVariants as action
 use Rattle.driver.specs.Items.{Item, RunStep, after_fault, ask, halt, items_by, notes, printing_joined, taking_due}
 use Rattle.host_events.specs.declared.event.Event.{Event}
 use Rattle.child_edge.specs.Faithful.{due_of}
@@ -48,50 +48,50 @@ IsOwn fault.SecondFile = ⊥
 
 -- What the agenda says.
 
-abbrev IsOwnAnswer : Result Turn RunFault → Type 0
+abbrev IsOwnAnswer : Result Action RunFault → Type 0
 IsOwnAnswer (Ok t) = Unit {0}
 IsOwnAnswer (Err why) = IsOwn why
 
-of_turn : (r : Result Turn RunFault) (t : Turn) → r ≡ Ok t → IsOwnAnswer r
-of_turn r t is = subst IsOwnAnswer (sym is) tt
+of_action : (r : Result Action RunFault) (t : Action) → r ≡ Ok t → IsOwnAnswer r
+of_action r t is = subst IsOwnAnswer (sym is) tt
 
-of_memory : (r : Result Turn RunFault) → r ≡ Err fault.OutOfMemory → IsOwnAnswer r
+of_memory : (r : Result Action RunFault) → r ≡ Err fault.OutOfMemory → IsOwnAnswer r
 of_memory r is = subst IsOwnAnswer (sym is) tt
 
-of_count : (r : Result Turn RunFault) → r ≡ Err fault.InputTooLong → IsOwnAnswer r
+of_count : (r : Result Action RunFault) → r ≡ Err fault.InputTooLong → IsOwnAnswer r
 of_count r is = subst IsOwnAnswer (sym is) tt
 
 module _ {P : Type 0} where
-  of_asking : (a : ByFields P) (w : World) (k id : ℕ) (r : Result Turn RunFault) (b : ByFields P) → AsksFrom a w k id r b → IsOwnAnswer r
-  of_asking a w k id r b (asked t lines is same) = of_turn r t is
+  of_asking : (a : ByFields P) (w : World) (k id : ℕ) (r : Result Action RunFault) (b : ByFields P) → AsksFrom a w k id r b → IsOwnAnswer r
+  of_asking a w k id r b (asked t lines is same) = of_action r t is
   of_asking a w k id r b (unasked is same) = of_memory r is
 
-  of_end : (a : ByFields P) (w : World) (stopped : Option ℕ) (r : Result Turn RunFault) (b : ByFields P) → ComesToItsEnd a w stopped r b → IsOwnAnswer r
-  of_end a w stopped r b (ends_with counts count is same) = of_turn r _ is
+  of_end : (a : ByFields P) (w : World) (stopped : Option ℕ) (r : Result Action RunFault) (b : ByFields P) → ComesToItsEnd a w stopped r b → IsOwnAnswer r
+  of_end a w stopped r b (ends_with counts count is same) = of_action r _ is
   of_end a w stopped r b (too_many_fields many is same) = of_count r is
 
-  of_unheard : (a : ByFields P) (w : World) (now : ℕ) (r : Result Turn RunFault) (b : ByFields P) → GoesUnheard a w now r b → IsOwnAnswer r
+  of_unheard : (a : ByFields P) (w : World) (now : ℕ) (r : Result Action RunFault) (b : ByFields P) → GoesUnheard a w now r b → IsOwnAnswer r
   of_unheard a w now r b (asks k id may asking) = of_asking a w k id r b asking
   of_unheard a w now r b (ends at free here so) = of_end a w at r b so
-  of_unheard a w now r b (interrupts n id held none late is same) = of_turn r _ is
-  of_unheard a w now r b (stalls held none late over is same) = of_turn r _ is
-  of_unheard a w now r b (watches held none late going is same) = of_turn r _ is
+  of_unheard a w now r b (interrupts n id held none late is same) = of_action r _ is
+  of_unheard a w now r b (stalls held none late over is same) = of_action r _ is
+  of_unheard a w now r b (watches held none late going is same) = of_action r _ is
 
-  of_going : (a : ByFields P) (w : World) (now : ℕ) (r : Result Turn RunFault) (b : ByFields P) → FieldsGoOn a w now r b → IsOwnAnswer r
+  of_going : (a : ByFields P) (w : World) (now : ℕ) (r : Result Action RunFault) (b : ByFields P) → FieldsGoOn a w now r b → IsOwnAnswer r
   of_going a w now r b (uncounted many is same) = of_count r is
-  of_going a w now r b (hears seat due is same) = of_turn r _ is
+  of_going a w now r b (hears seat due is same) = of_action r _ is
   of_going a w now r b (goes_unheard none goes) = of_unheard (seen_due a) w now r b goes
 
-  of_look : (finds : Finds) (a : ByFields P) (w : World) (r : Result Turn RunFault) (b : ByFields P) → LooksFor finds a w r b → IsOwnAnswer r
-  of_look finds a w r b (looked ids how finding is same) = of_turn r _ is
+  of_look : (finds : Finds) (a : ByFields P) (w : World) (r : Result Action RunFault) (b : ByFields P) → LooksFor finds a w r b → IsOwnAnswer r
+  of_look finds a w r b (looked ids how finding is same) = of_action r _ is
   of_look finds a w r b (unlooked is same) = of_memory r is
 
-  of_saying : (how : Stage) (finds : Finds) (a : ByFields P) (w : World) (now : ℕ) (r : Result Turn RunFault) (b : ByFields P) → SaysAt how finds a w now r b → IsOwnAnswer r
+  of_saying : (how : Stage) (finds : Finds) (a : ByFields P) (w : World) (now : ℕ) (r : Result Action RunFault) (b : ByFields P) → SaysAt how finds a w now r b → IsOwnAnswer r
   of_saying stage.New finds a w now r b said = of_look finds a w r b said
   of_saying stage.Going finds a w now r b said = of_going a w now r b said
-  of_saying (stage.Counted end) finds a w now r b said = of_turn r _ said.0
-  of_saying (stage.NoField id) finds a w now r b said = of_turn r _ said.0
-  of_saying (stage.NoProgram name) finds a w now r b said = of_turn r _ said.0
+  of_saying (stage.Counted end) finds a w now r b said = of_action r _ said.0
+  of_saying (stage.NoField id) finds a w now r b said = of_action r _ said.0
+  of_saying (stage.NoProgram name) finds a w now r b said = of_action r _ said.0
 
 -- What is to be done.
 
@@ -100,7 +100,7 @@ IsOwnItem item.ask = Unit {0}
 IsOwnItem (item.watch q) = Unit {0}
 IsOwnItem (item.hear seat most) = Unit {0}
 IsOwnItem (item.take from events) = Unit {0}
-IsOwnItem (item.take_whole first events) = Unit {0}
+IsOwnItem (item.take_transaction first events) = Unit {0}
 IsOwnItem (item.take_edits up_to events) = Unit {0}
 IsOwnItem (item.take_alone e) = Unit {0}
 IsOwnItem (item.carry o) = Unit {0}
@@ -118,20 +118,20 @@ abbrev AreOwn : List Item → Type 0
 AreOwn [] = Unit {0}
 AreOwn (i ∷ todo) = IsOwnItem i × AreOwn todo
 
-turn_own : (t : Turn) → AreOwn (items_by t)
-turn_own turn.End = tt
-turn_own turn.Nothing = (tt, tt)
-turn_own (turn.Watch input patience) = (tt, (tt, tt))
-turn_own (turn.Hear seat most) = (tt, (tt, tt))
-turn_own (turn.Lines first events) = (tt, (tt, tt))
-turn_own (turn.Whole first events) = (tt, (tt, tt))
-turn_own (turn.Edits up_to events) = (tt, (tt, tt))
-turn_own (turn.Alone e) = (tt, (tt, tt))
-turn_own (turn.Receive seat) = (tt, (tt, tt))
-turn_own (turn.Checkpoint line) = (tt, (tt, tt))
-turn_own turn.Stall = (tt, (tt, tt))
-turn_own (turn.Interrupt name) = (tt, (tt, tt))
-turn_own (turn.Show s) = (tt, (tt, (tt, tt)))
+action_own : (t : Action) → AreOwn (items_by t)
+action_own action.End = tt
+action_own action.Nothing = (tt, tt)
+action_own (action.Watch input patience) = (tt, (tt, tt))
+action_own (action.Hear seat most) = (tt, (tt, tt))
+action_own (action.Lines first events) = (tt, (tt, tt))
+action_own (action.Transaction first events) = (tt, (tt, tt))
+action_own (action.Edits up_to events) = (tt, (tt, tt))
+action_own (action.Alone e) = (tt, (tt, tt))
+action_own (action.Receive seat) = (tt, (tt, tt))
+action_own (action.Checkpoint line) = (tt, (tt, tt))
+action_own action.Stall = (tt, (tt, tt))
+action_own (action.Interrupt name) = (tt, (tt, tt))
+action_own (action.Show s) = (tt, (tt, (tt, tt)))
 
 notes_own : (n : Option Note) (rest : List Item) → AreOwn rest → AreOwn (notes n ++ rest)
 notes_own None rest all = all
@@ -187,7 +187,7 @@ module _ {C : Type 0} (o : Way C) where
   fails_own p q i entries why (step.unprinted s w k (inr (is, takes)) tries) = subst IsOwn (sym is) tt
 
   step_own : (p mid : Spot) (todo next : List Item) (s : RunStep) → AreOwn todo → Goes (copy_rules o) p todo s next mid → AreOwn next
-  step_own p mid todo next s all (step.asks now t a clock said) = turn_own t
+  step_own p mid todo next s all (step.asks now t a clock said) = action_own t
   step_own p mid todo next s all (step.watches x w c a rest wakes turned) = all.1
   step_own p mid todo next s all (step.hears seat most events c rest h) = (tt, all.1)
   step_own p mid todo next s all (step.takes from events outcomes followed w c d rest t) = (tt, (tt, (tt, all.1)))

@@ -27,9 +27,9 @@ use crate::copying::open_copy;
 use crate::driving::{CopyDriver, Gave, drive_copy, into_sources};
 use crate::manner::{Manner, Suite};
 use crate::named::{CheckFault, accept_named};
+use crate::places::FieldPlace;
 use crate::progress::{Progress, Sight};
 use crate::sessions::count_checked;
-use crate::turns::FieldTurn;
 use arrivals::Sources;
 use check_report::{Counts, Format};
 use child_edge::stop_all;
@@ -41,43 +41,43 @@ use std::io::Write;
 
 /// Checks a field, where it is one of those that are, and accepts what came where it differs or is new. The counts with what that came to, which are shown.
 fn accept_field<D: Disk, S: Disk, C: Sources, W: Write, P: Progress>(
-    turn: &FieldTurn<'_>,
+    place: &FieldPlace<'_>,
     driver: &mut CopyDriver<D, C>,
     store: &mut Store<S>,
     progress: &mut P,
     writer: &mut W,
 ) -> Result<Counts, RunFault>
-    requires few { total turn.now.counts < 2 ^ 31 }
-    requires errors { turn.now.counts.errors ≤ total turn.now.counts }
+    requires few { total place.now.counts < 2 ^ 31 }
+    requires errors { place.now.counts.errors ≤ total place.now.counts }
     requires stands { (w : World) × IsHost driver.old.host w }
     requires open { store.old.closed ≡ false }
-    requires there { has_field store.old.sheet.contents turn.now.field.now.id ≡ true }
+    requires there { has_field store.old.sheet.contents place.now.field.now.id ≡ true }
     ensures written { store.old.gathers ≡ false → store.new.gathers ≡ false }
     ensures ok { (w : World) → IsHost driver.old.host w → (ops more : List Op) → (disk : DiskView)
         → Stores ops more disk store.old → IfOk result (λ after. (wrote : FieldWrote
-        (accepting_by C.after C.clock C.wakes turn.now.manner.request.now)
-        turn.now.field.now (at w driver.old.sources driver.old.host.store.disk)
+        (accepting_by C.after C.clock C.wakes place.now.manner.request.now)
+        place.now.field.now (at w driver.old.sources driver.old.host.store.disk)
         (left driver.new.host driver.new.sources (W.contents writer.old) (W.contents writer.new))
-        turn.now.counts after)
+        place.now.counts after)
         × PutAll (storing ops more disk store.new) (accepted wrote.0)) }
-    ensures bound { IfOk result (λ after. total after ≤ total turn.now.counts + 1) }
+    ensures bound { IfOk result (λ after. total after ≤ total place.now.counts + 1) }
     ensures errors { IfOk result (λ after. after.errors ≤ total after) }
     ensures err { (w : World) → IsHost driver.old.host w → (ops more : List Op) → (disk : DiskView)
         → Stores ops more disk store.old → IfErr result (FieldBroke
-        (accepting_by C.after C.clock C.wakes turn.now.manner.request.now)
-        turn.now.field.now (at w driver.old.sources driver.old.host.store.disk)
+        (accepting_by C.after C.clock C.wakes place.now.manner.request.now)
+        place.now.field.now (at w driver.old.sources driver.old.host.store.disk)
         (left driver.new.host driver.new.sources (W.contents writer.old) (W.contents writer.new))
         (storing ops more disk store.new)) }
     ensures shown { IfOk result (λ after.
-        FieldShown (display formats.Accepting P.shows) turn.now.all turn.now.counts after
+        FieldShown (display formats.Accepting P.shows) place.now.all place.now.counts after
         progress.old progress.new) }
     ensures left { IfErr result (λ _. LeavesLine P.shows progress.old progress.new) }
 {
-    if !turn.manner.request.chosen.has(turn.field) {
-        return Ok(turn.counts);
+    if !place.manner.request.chosen.has(place.field) {
+        return Ok(place.counts);
     }
-    match accept_shown(turn, driver, store, progress, writer) {
-        Ok(judgement) => Ok(turn.counted(judgement, progress)),
+    match accept_shown(place, driver, store, progress, writer) {
+        Ok(judgement) => Ok(place.counted(judgement, progress)),
         Err(fault) => Err(fault),
     }
 }
@@ -119,13 +119,13 @@ fn accept_fields<D: Disk, S: Disk, C: Sources, W: Write, P: Progress>(
     let mut counts = Counts::none();
     let mut fields = suite.sheet.fields();
     while let Some(field) = fields.next() {
-        let turn = FieldTurn {
+        let place = FieldPlace {
             manner: suite.manner,
             field,
             counts,
             all,
         };
-        match accept_field(&turn, driver, store, progress, writer) {
+        match accept_field(&place, driver, store, progress, writer) {
             Ok(after) => counts = after,
             Err(fault) => return Err(fault),
         }

@@ -21,9 +21,9 @@ ghost use Rattle.sheet_check.specs.inside.Checking.{question};
 use crate::accept::{PutFault, accept};
 use crate::driving::CopyDriver;
 use crate::evaluating::evaluate;
+use crate::places::FieldPlace;
 use crate::progress::Progress;
 use crate::telling::make_room;
-use crate::turns::FieldTurn;
 use arrivals::Sources;
 use block_tree::OutOfMemory;
 use check_report::{
@@ -204,27 +204,27 @@ fn take<D: Disk, W: Write, P: Progress>(
 
 /// Evaluates a field that is checked, and accepts and tells what that came to.
 pub(crate) fn accept_shown<D: Disk, S: Disk, C: Sources, W: Write, P: Progress>(
-    turn: &FieldTurn<'_>,
+    place: &FieldPlace<'_>,
     driver: &mut CopyDriver<D, C>,
     store: &mut Store<S>,
     progress: &mut P,
     writer: &mut W,
 ) -> Result<Judgement, RunFault>
-    requires chosen { is_chosen turn.now.manner.request.now.chosen turn.now.field.now ≡ true }
+    requires chosen { is_chosen place.now.manner.request.now.chosen place.now.field.now ≡ true }
     requires stands { (w : World) × IsHost driver.old.host w }
     requires open { store.old.closed ≡ false }
-    requires there { has_field store.old.sheet.contents turn.now.field.now.id ≡ true }
+    requires there { has_field store.old.sheet.contents place.now.field.now.id ≡ true }
     ensures written { store.old.gathers ≡ false → store.new.gathers ≡ false }
     ensures ok { (w : World) → IsHost driver.old.host w → (ops more : List Op) → (disk : DiskView)
         → Stores ops more disk store.old → IfOk result (ShownTook
-        (accepting_by C.after C.clock C.wakes turn.now.manner.request.now)
-        (question 0 turn.now.field.now) (at w driver.old.sources driver.old.host.store.disk)
+        (accepting_by C.after C.clock C.wakes place.now.manner.request.now)
+        (question 0 place.now.field.now) (at w driver.old.sources driver.old.host.store.disk)
         (left driver.new.host driver.new.sources (W.contents writer.old) (W.contents writer.new))
         (storing ops more disk store.new)) }
     ensures err { (w : World) → IsHost driver.old.host w → (ops more : List Op) → (disk : DiskView)
         → Stores ops more disk store.old → IfErr result (FieldBroke
-        (accepting_by C.after C.clock C.wakes turn.now.manner.request.now)
-        turn.now.field.now (at w driver.old.sources driver.old.host.store.disk)
+        (accepting_by C.after C.clock C.wakes place.now.manner.request.now)
+        place.now.field.now (at w driver.old.sources driver.old.host.store.disk)
         (left driver.new.host driver.new.sources (W.contents writer.old) (W.contents writer.new))
         (storing ops more disk store.new)) }
     ensures room { IfOk result (λ j.
@@ -232,18 +232,18 @@ pub(crate) fn accept_shown<D: Disk, S: Disk, C: Sources, W: Write, P: Progress>(
     ensures left { IfErr result (λ _. LeavesLine P.shows progress.old progress.new) }
 {
     worksheet::laws::ops_make_worksheets();
-    let came = match evaluate(driver, turn.manner.request.limit, turn.field) {
+    let came = match evaluate(driver, place.manner.request.limit, place.field) {
         Ok(came) => came,
         Err(fault) => return Err(fault),
     };
     match find_on_copy(
-        turn.manner.alloc,
-        &turn.manner.request.chosen,
+        place.manner.alloc,
+        &place.manner.request.chosen,
         &driver.host,
-        turn.field,
+        place.field,
         came.is_there,
     ) {
         None => Err(RunFault::OutOfMemory),
-        Some(found) => take(store, turn.field.id, found, progress, writer),
+        Some(found) => take(store, place.field.id, found, progress, writer),
     }
 }

@@ -25,10 +25,10 @@ use crate::driving::{CopyDriver, Gave, drive_copy, into_sources};
 use crate::evaluating::evaluate;
 use crate::manner::Manner;
 use crate::named::{CheckFault, check_named};
+use crate::places::FieldPlace;
 use crate::progress::{Progress, Sight};
 use crate::sessions::count_checked;
 use crate::telling::{Tried, tell_what_came};
-use crate::turns::FieldTurn;
 use arrivals::Sources;
 use check_report::{Counts, Format, Judgement, open_report};
 use child_edge::stop_all;
@@ -41,69 +41,69 @@ use worksheet::Sheet;
 
 /// Evaluates a field that is checked, and tells what that came to.
 fn check_shown<D: Disk, C: Sources, W: Write, P: Progress>(
-    turn: &FieldTurn<'_>,
+    place: &FieldPlace<'_>,
     driver: &mut CopyDriver<D, C>,
     progress: &mut P,
     writer: &mut W,
 ) -> Result<Judgement, RunFault>
-    requires chosen { is_chosen turn.now.manner.request.now.chosen turn.now.field.now ≡ true }
-    requires few { total turn.now.counts < 2 ^ 31 }
+    requires chosen { is_chosen place.now.manner.request.now.chosen place.now.field.now ≡ true }
+    requires few { total place.now.counts < 2 ^ 31 }
     ensures ok { (w : World) → IsHost driver.old.host w → IfOk result (ShownWrote
-        (checking_by C.after C.clock C.wakes turn.now.manner.request.now)
-        (question (total turn.now.counts + 1) turn.now.field.now)
+        (checking_by C.after C.clock C.wakes place.now.manner.request.now)
+        (question (total place.now.counts + 1) place.now.field.now)
         (at w driver.old.sources driver.old.host.store.disk)
         (left driver.new.host driver.new.sources (W.contents writer.old) (W.contents writer.new))) }
     ensures err { (w : World) → IsHost driver.old.host w → IfErr result (FieldFailed
-        (checking_by C.after C.clock C.wakes turn.now.manner.request.now)
-        turn.now.field.now (at w driver.old.sources driver.old.host.store.disk)
+        (checking_by C.after C.clock C.wakes place.now.manner.request.now)
+        place.now.field.now (at w driver.old.sources driver.old.host.store.disk)
         (left driver.new.host driver.new.sources (W.contents writer.old) (W.contents writer.new))) }
     ensures room { IfOk result (λ j.
-        MakesRoom turn.now.manner.request.now.format P.shows j.verdict progress.old progress.new) }
+        MakesRoom place.now.manner.request.now.format P.shows j.verdict progress.old progress.new) }
     ensures left { IfErr result (λ _. LeavesLine P.shows progress.old progress.new) }
 {
-    let came = match evaluate(driver, turn.manner.request.limit, turn.field) {
+    let came = match evaluate(driver, place.manner.request.limit, place.field) {
         Ok(came) => came,
         Err(fault) => return Err(fault),
     };
     let tried = Tried {
-        number: turn.number(),
-        field: turn.field,
+        number: place.number(),
+        field: place.field,
         is_there: came.is_there,
         took: Some(came.took),
     };
-    tell_what_came(&turn.manner, &driver.host, &tried, progress, writer)
+    tell_what_came(&place.manner, &driver.host, &tried, progress, writer)
 }
 
 /// Checks a field, where it is one of those that are. The counts with what that came to, which are shown.
 fn check_field<D: Disk, C: Sources, W: Write, P: Progress>(
-    turn: &FieldTurn<'_>,
+    place: &FieldPlace<'_>,
     driver: &mut CopyDriver<D, C>,
     progress: &mut P,
     writer: &mut W,
 ) -> Result<Counts, RunFault>
-    requires few { total turn.now.counts < 2 ^ 31 }
-    requires errors { turn.now.counts.errors ≤ total turn.now.counts }
+    requires few { total place.now.counts < 2 ^ 31 }
+    requires errors { place.now.counts.errors ≤ total place.now.counts }
     ensures ok { (w : World) → IsHost driver.old.host w → IfOk result (FieldWrote
-        (checking_by C.after C.clock C.wakes turn.now.manner.request.now)
-        turn.now.field.now (at w driver.old.sources driver.old.host.store.disk)
+        (checking_by C.after C.clock C.wakes place.now.manner.request.now)
+        place.now.field.now (at w driver.old.sources driver.old.host.store.disk)
         (left driver.new.host driver.new.sources (W.contents writer.old) (W.contents writer.new))
-        turn.now.counts) }
-    ensures bound { IfOk result (λ after. total after ≤ total turn.now.counts + 1) }
+        place.now.counts) }
+    ensures bound { IfOk result (λ after. total after ≤ total place.now.counts + 1) }
     ensures errors { IfOk result (λ after. after.errors ≤ total after) }
     ensures err { (w : World) → IsHost driver.old.host w → IfErr result (FieldFailed
-        (checking_by C.after C.clock C.wakes turn.now.manner.request.now)
-        turn.now.field.now (at w driver.old.sources driver.old.host.store.disk)
+        (checking_by C.after C.clock C.wakes place.now.manner.request.now)
+        place.now.field.now (at w driver.old.sources driver.old.host.store.disk)
         (left driver.new.host driver.new.sources (W.contents writer.old) (W.contents writer.new))) }
     ensures shown { IfOk result (λ after.
-        FieldShown (display turn.now.manner.request.now.format P.shows) turn.now.all turn.now.counts
+        FieldShown (display place.now.manner.request.now.format P.shows) place.now.all place.now.counts
         after progress.old progress.new) }
     ensures left { IfErr result (λ _. LeavesLine P.shows progress.old progress.new) }
 {
-    if !turn.manner.request.chosen.has(turn.field) {
-        return Ok(turn.counts);
+    if !place.manner.request.chosen.has(place.field) {
+        return Ok(place.counts);
     }
-    match check_shown(turn, driver, progress, writer) {
-        Ok(judgement) => Ok(turn.counted(judgement, progress)),
+    match check_shown(place, driver, progress, writer) {
+        Ok(judgement) => Ok(place.counted(judgement, progress)),
         Err(fault) => Err(fault),
     }
 }
@@ -150,13 +150,13 @@ fn check_fields<D: Disk, C: Sources, W: Write, P: Progress>(
     let mut counts = Counts::none();
     let mut fields = sheet.fields();
     while let Some(field) = fields.next() {
-        let turn = FieldTurn {
+        let place = FieldPlace {
             manner: *manner,
             field,
             counts,
             all,
         };
-        match check_field(&turn, driver, progress, writer) {
+        match check_field(&place, driver, progress, writer) {
             Ok(after) => counts = after,
             Err(fault) => return Err(fault),
         }
@@ -282,7 +282,7 @@ pub struct Checked<D: Disk, C> {
 ///
 /// `Open` where the disk isn't opened, `NoField` where the worksheet lacks a field whose number is left out or
 /// compared: nothing was done. `OutOfMemory`, also where the copy has no room in memory, `Host` where the host of
-/// the copy has another fault, `Input` where the sources can't be watched, and `InputTooLong` after 2^64 - 1 turns
+/// the copy has another fault, `Input` where the sources can't be watched, and `InputTooLong` after 2^64 - 1 rounds
 /// of one field: what was reported before is written. `Output` where the writer fails: a part of the text may have
 /// gone out.
 pub fn check<D: Disk, C: Sources, W: Write, P: Progress>(

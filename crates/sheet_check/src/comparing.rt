@@ -11,10 +11,10 @@ use crate::checking::tell_opening;
 use crate::driving::CopyDriver;
 use crate::manner::Manner;
 use crate::marked::is_in_time;
+use crate::places::FieldPlace;
 use crate::progress::Progress;
 use crate::sessions::count_checked;
 use crate::telling::{Tried, tell_what_came};
-use crate::turns::FieldTurn;
 use arrivals::Sources;
 use check_report::Counts;
 use disk_model::Disk;
@@ -25,36 +25,36 @@ use worksheet::Sheet;
 /// Compares a field, where it is one of those that are checked, with what it shows on the copy, and tells what
 /// that came to. The counts with that, which are shown.
 fn compare_field<D: Disk, C: Sources, W: Write, P: Progress>(
-    turn: &FieldTurn<'_>,
+    place: &FieldPlace<'_>,
     driver: &CopyDriver<D, C>,
     progress: &mut P,
     writer: &mut W,
 ) -> Result<Counts, RunFault>
-    requires few { total turn.now.counts < 2 ^ 31 }
-    requires errors { turn.now.counts.errors ≤ total turn.now.counts }
+    requires few { total place.now.counts < 2 ^ 31 }
+    requires errors { place.now.counts.errors ≤ total place.now.counts }
     ensures ok { (w : World) → IsHost driver.now.host w → IfOk result (FieldReported
-        (comparing turn.now.manner.request.now.chosen turn.now.manner.request.now.format w
-        driver.now.sink.kept) turn.now.field.now
-        (W.contents writer.old) (W.contents writer.new) turn.now.counts) }
-    ensures bound { IfOk result (λ after. total after ≤ total turn.now.counts + 1) }
+        (comparing place.now.manner.request.now.chosen place.now.manner.request.now.format w
+        driver.now.sink.kept) place.now.field.now
+        (W.contents writer.old) (W.contents writer.new) place.now.counts) }
+    ensures bound { IfOk result (λ after. total after ≤ total place.now.counts + 1) }
     ensures errors { IfOk result (λ after. after.errors ≤ total after) }
     ensures err { IfErr result (Withheld (W.contents writer.old) (W.contents writer.new)) }
     ensures shown { IfOk result (λ after.
-        FieldShown (display turn.now.manner.request.now.format P.shows) turn.now.all turn.now.counts
+        FieldShown (display place.now.manner.request.now.format P.shows) place.now.all place.now.counts
         after progress.old progress.new) }
     ensures left { IfErr result (λ _. LeavesLine P.shows progress.old progress.new) }
 {
-    if !turn.manner.request.chosen.has(turn.field) {
-        return Ok(turn.counts);
+    if !place.manner.request.chosen.has(place.field) {
+        return Ok(place.counts);
     }
     let tried = Tried {
-        number: turn.number(),
-        field: turn.field,
-        is_there: is_in_time(driver.sink.kept.as_slice(), turn.field.id),
+        number: place.number(),
+        field: place.field,
+        is_there: is_in_time(driver.sink.kept.as_slice(), place.field.id),
         took: None,
     };
-    match tell_what_came(&turn.manner, &driver.host, &tried, progress, writer) {
-        Ok(judgement) => Ok(turn.counted(judgement, progress)),
+    match tell_what_came(&place.manner, &driver.host, &tried, progress, writer) {
+        Ok(judgement) => Ok(place.counted(judgement, progress)),
         Err(fault) => Err(fault),
     }
 }
@@ -92,13 +92,13 @@ pub(crate) fn compare_fields<D: Disk, C: Sources, W: Write, P: Progress>(
     let mut counts = Counts::none();
     let mut fields = sheet.fields();
     while let Some(field) = fields.next() {
-        let turn = FieldTurn {
+        let place = FieldPlace {
             manner: *manner,
             field,
             counts,
             all,
         };
-        match compare_field(&turn, driver, progress, writer) {
+        match compare_field(&place, driver, progress, writer) {
             Ok(after) => counts = after,
             Err(fault) => return Err(fault),
         }

@@ -16,11 +16,11 @@ mod manner;
 mod marked;
 mod marks;
 mod named;
+mod places;
 mod progress;
 mod sessions;
 mod telling;
 mod together;
-mod turns;
 
 pub use accept_fields::check_accepting;
 pub use checking::{Checked, check};

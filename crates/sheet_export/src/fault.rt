@@ -16,8 +16,9 @@ pub enum ExportFault {
     /// 10,000 fields. Nothing was written.
     #[error("no script makes the worksheet")]
     NoScript,
-    /// 30 to 33, and 35 where another program has the worksheet: its disk was not opened, and nothing was
-    /// written. 42: the writer failed; a part of the text may have gone out.
+    /// 30 to 33, and 35 where another program has the worksheet: its disk was not opened. 43: there was no
+    /// memory for a notebook or for JSON. At these nothing was written. 42: the writer failed; a part of the
+    /// text may have gone out.
     #[error("the worksheet was not written")]
     Run(RunFault),
 }

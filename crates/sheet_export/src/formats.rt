@@ -98,7 +98,8 @@ pub fn last_part(path: &[u8]) -> &[u8]
 /// Writes the lines that make a worksheet again: its sessions, then its fields in their order, each
 /// after the one before it. Answers are no part of it.
 ///
-/// `NoScript` where a session has a word with a space, which a line can't have: nothing was written.
+/// `NoScript` where a session has a word with a space, which a line can't have, or there are more than
+/// 10,000 fields: nothing was written.
 /// `Output` where the writer fails: a part of the lines may have gone out.
 #[tactic(auto, using(crate::proofs::Faults::writing_faults))]
 pub fn script_text<W: Write>(sheet: &Sheet, out: &mut W) -> Result<(), ExportFault>

@@ -6,7 +6,7 @@ ghost use Rattle.sheet_files.specs.DiskFile.{IsStill, Now};
 ghost use Rattle.sheet_files.specs.MemoryFile.{NotesCall, memory_view};
 
 use crate::DiskFile;
-use disk_model::GREATEST_ROOM;
+use disk_model::{GREATEST_ROOM, overwrite};
 use std::alloc::{AllocError, Global};
 use std::io;
 use std::io::ErrorKind;
@@ -51,21 +51,6 @@ impl MemoryFile {
     }
 }
 
-/// Puts bytes over what is there, and past the end. At an error nothing has changed.
-fn put(content: &mut Vec<u8>, offset: usize, bytes: &[u8]) -> Result<(), AllocError>
-    requires inside { offset ≤ length content.old.items }
-    requires fits { offset + length bytes.now < 2 ^ 64 }
-    ensures ok { OnOk result (content.new.items ≡ overwritten content.old.items offset bytes.now) }
-    ensures err { OnErr result (content.new.items ≡ content.old.items) }
-{
-    let end = offset + bytes.len();
-    if end > content.len() {
-        content.resize(end, 0)?;
-    }
-    content[offset..end].copy_from_slice(bytes);
-    Ok(())
-}
-
 /// Notes a write and makes it. At an error nothing has changed.
 fn write(
     alloc: Global,
@@ -85,7 +70,7 @@ fn write(
 {
     let copy = Vec::from_slice(alloc, bytes)?;
     calls.reserve(1)?;
-    put(content, offset as usize, bytes)?;
+    overwrite(content, offset as usize, bytes)?;
     let call = FileCall {
         moment,
         deed: Deed::Write(offset, copy),

@@ -125,7 +125,7 @@ fn name_with(sessions: &IndexMap<Name, Option<Session>>, name: &[u8]) -> Name
 }
 
 /// The text of bytes that are UTF-8, in their buffer.
-fn text_of(bytes: Octets) -> Text
+pub fn text_of(bytes: Octets) -> Text
     requires { is_utf8 bytes ≡ true }
     ensures { result ≡ bytes }
 {

@@ -19,6 +19,7 @@ mod session_map;
 pub mod sheet;
 mod slot;
 
+pub use carry::text_of;
 pub use field::{Answer, Field, Session};
 pub use fields::{Fields, Sessions};
 pub use name::Name;

@@ -21,7 +21,7 @@ abbrev pub Spares : Area → DiskState → Image → Type 0
 Spares area s i = (j : Image) × IsImage s j × SparedBy area j i
 
 -- Each image stands for the payloads from before, in the other area; this area is rewritten for these payloads, and durable.
-pub record IsReadyToTurn (area : Area) (before payloads : List (List ℕ)) (h : History) : Type 0 where
+pub record IsReadyToActivate (area : Area) (before payloads : List (List ℕ)) (h : History) : Type 0 where
   pub stands : Leaves (λ i. ImageStandsFor i before) h.now
   pub named : Leaves (λ i. active_area i ≡ other_area area) h.now
   pub here : ImageStandsFor (content_of h) before

@@ -10,7 +10,7 @@ returns-in-Err-take-clause-looks g c = λ model.
     let before = c.loop-following.invariant in
     let model1 = subst IsTrue (sym before.same.keeps_model) model in
     let looks = rw c.in-Ok-Payload.field-0-is at c.in-Ok-Payload.ensures.looks model1 in
-    subst (λ (d : DiskView). Looks c.args.front.disk.history d.history) (sym (c.stop.ensures.disk ∙ c.into_disk.ensures)) (looks_on _ _ _ (before.looks model) looks)
+    subst (λ (d : DiskView). Looks c.args.front.disk.history d.history) (sym (c.end_rescue.ensures.disk ∙ c.into_disk.ensures)) (looks_on _ _ _ (before.looks model) looks)
 
 pub returns-in-Err-take-clause-found : goal.returns-in-Err-take-clause-found
 returns-in-Err-take-clause-found g c = λ model payloads has.
@@ -19,14 +19,14 @@ returns-in-Err-take-clause-found g c = λ model payloads has.
     let far = before.reached.so_far model payloads has in
     let next = rw c.in-Ok-Payload.field-0-is at (c.in-Ok-Payload.ensures.given model1 (codes_of before.reached.ops) far.left far.given) in
     let on = rw c.in-Ok-Payload.field-0-is at c.in-Ok-Payload.ensures.on in
-    found_before c.args.front c.loop-following.front c.loop-following.sheet c.take.new.sheet c.loop-following.kept c.into_disk.result c.in-Ok-Payload.payload payloads c.in-Err-take.cause c.stop.result before.reached has far next.0 next.1 on.0
-    c.in-Err-take.ensures.as_before (c.in-Err-take.ensures.refused before.reached.ops before.reached.makes) c.stop.ensures.stops
+    found_before c.args.front c.loop-following.front c.loop-following.sheet c.take.new.sheet c.loop-following.kept c.into_disk.result c.in-Ok-Payload.payload payloads c.in-Err-take.cause c.end_rescue.result before.reached has far next.0 next.1 on.0
+    c.in-Err-take.ensures.as_before (c.in-Err-take.ensures.refused before.reached.ops before.reached.makes) c.end_rescue.ensures.stops
 
 pub returns-in-Err-take-clause-made : goal.returns-in-Err-take-clause-made
 returns-in-Err-take-clause-made g c =
     let before = c.loop-following.invariant in
-    made_before before.reached.ops c.loop-following.sheet c.take.new.sheet c.loop-following.kept c.into_disk.result c.in-Ok-Payload.payload c.in-Err-take.cause c.stop.result before.reached.makes before.reached.count
-    c.in-Err-take.ensures.as_before (c.in-Err-take.ensures.refused before.reached.ops before.reached.makes) c.stop.ensures.stops
+    made_before before.reached.ops c.loop-following.sheet c.take.new.sheet c.loop-following.kept c.into_disk.result c.in-Ok-Payload.payload c.in-Err-take.cause c.end_rescue.result before.reached.makes before.reached.count
+    c.in-Err-take.ensures.as_before (c.in-Err-take.ensures.refused before.reached.ops before.reached.makes) c.end_rescue.ensures.stops
 
 pub returns-in-Ok-End-clause-looks : goal.returns-in-Ok-End-clause-looks
 returns-in-Ok-End-clause-looks g c = λ model.

@@ -6,12 +6,12 @@ use Rattle.sheet_check.proofs.accept_fields.accept_field.Goals as goal
 
 pub returns-then-not-has-clause-ok : goal.returns-then-not-has-clause-ok
 returns-then-not-has-clause-ok g c = λ w h ops more disk stores.
-    passed_took (way g.C.Children.after g.C.Sources.clock g.C.Sources.wakes c.args.turn.now.manner.request.now.limit) c.args.turn.now.manner.request.now.chosen c.args.turn.now.field.now w c.args.driver.now.host c.args.driver.now.sources (g.W.Write.contents c.args.writer.now) ops more disk c.args.store.now c.args.turn.now.counts (sym c.has.ensures ∙ c.if-not-has.true) h stores
+    passed_took (way g.C.Children.after g.C.Sources.clock g.C.Sources.wakes c.args.place.now.manner.request.now.limit) c.args.place.now.manner.request.now.chosen c.args.place.now.field.now w c.args.driver.now.host c.args.driver.now.sources (g.W.Write.contents c.args.writer.now) ops more disk c.args.store.now c.args.place.now.counts (sym c.has.ensures ∙ c.if-not-has.true) h stores
 
 pub returns-in-Ok-clause-ok : goal.returns-in-Ok-clause-ok
 returns-in-Ok-clause-ok g c = λ w h ops more disk stores.
-    checked_took (way g.C.Children.after g.C.Sources.clock g.C.Sources.wakes c.args.turn.now.manner.request.now.limit) c.args.turn.now.manner.request.now.chosen c.args.turn.now.field.now (at w c.args.driver.now.sources c.args.driver.now.host.store.disk) c.accept_shown.new.driver.host c.accept_shown.new.driver.sources (g.W.Write.contents c.args.writer.now)
-    (g.W.Write.contents c.accept_shown.new.writer) ops more disk c.accept_shown.new.store c.args.turn.now.counts c.counted.result c.in-Ok.judgement
+    checked_took (way g.C.Children.after g.C.Sources.clock g.C.Sources.wakes c.args.place.now.manner.request.now.limit) c.args.place.now.manner.request.now.chosen c.args.place.now.field.now (at w c.args.driver.now.sources c.args.driver.now.host.store.disk) c.accept_shown.new.driver.host c.accept_shown.new.driver.sources (g.W.Write.contents c.args.writer.now)
+    (g.W.Write.contents c.accept_shown.new.writer) ops more disk c.accept_shown.new.store c.args.place.now.counts c.counted.result c.in-Ok.judgement
     (sym c.has.ensures ∙ c.if-not-has.false) (c.in-Ok.ensures.ok w h ops more disk stores)
     c.counted.ensures.counted
 

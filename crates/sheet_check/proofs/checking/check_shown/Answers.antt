@@ -9,7 +9,7 @@ use Rattle.sheet_check.proofs.checking.check_shown.Goals as goal
 
 pub returns-in-Err-clause-err : goal.returns-in-Err-clause-err
 returns-in-Err-clause-err g c = λ w h.
-    evaluation_failed (one_by_one (way g.C.Children.after g.C.Sources.clock g.C.Sources.wakes c.args.turn.now.manner.request.now.limit) c.args.turn.now.manner.request.now.chosen c.args.turn.now.manner.request.now.format) c.args.turn.now.field.now c.requires.chosen (at w c.args.driver.now.sources c.args.driver.now.host.store.disk) c.evaluate.new.driver.host c.evaluate.new.driver.sources
+    evaluation_failed (one_by_one (way g.C.Children.after g.C.Sources.clock g.C.Sources.wakes c.args.place.now.manner.request.now.limit) c.args.place.now.manner.request.now.chosen c.args.place.now.manner.request.now.format) c.args.place.now.field.now c.requires.chosen (at w c.args.driver.now.sources c.args.driver.now.host.store.disk) c.evaluate.new.driver.host c.evaluate.new.driver.sources
     (g.W.Write.contents c.args.writer.now) c.in-Err.fault (c.in-Err.ensures.err w h)
 
 pub returns-clause-ok : goal.returns-clause-ok
@@ -17,7 +17,7 @@ returns-clause-ok g c = λ w h.
     let q = c.in-Ok.ensures.ok w h in
     IfOk-weaker c.tell_what_came.result _ _
     (λ j p. (
-      came_if c.in-Ok.came.is_there (shown_in q.0 c.args.turn.now.field.now.id),
+      came_if c.in-Ok.came.is_there (shown_in q.0 c.args.place.now.field.now.id),
       q.0,
       c.in-Ok.came.took,
       q.1,
@@ -25,9 +25,9 @@ returns-clause-ok g c = λ w h.
       p.0,
       p.1,
       subst (λ n. Appends (g.W.Write.contents c.args.writer.now) (g.W.Write.contents c.tell_what_came.new.writer)
-          (case_text c.args.turn.now.manner.request.now.format n
-          (case c.args.turn.now.field.now (came_if c.in-Ok.came.is_there (shown_in q.0 c.args.turn.now.field.now.id))
-          (reason_shown_in q.0 c.args.turn.now.field.now.id) j.verdict (Some c.in-Ok.came.took)))) c.number.ensures p.2,
+          (case_text c.args.place.now.manner.request.now.format n
+          (case c.args.place.now.field.now (came_if c.in-Ok.came.is_there (shown_in q.0 c.args.place.now.field.now.id))
+          (reason_shown_in q.0 c.args.place.now.field.now.id) j.verdict (Some c.in-Ok.came.took)))) c.number.ensures p.2,
     ))
     (c.tell_what_came.ensures.ok q.0 q.2)
 
@@ -35,7 +35,7 @@ pub returns-clause-err : goal.returns-clause-err
 returns-clause-err g c = λ w h.
     let q = c.in-Ok.ensures.ok w h in
     IfErr-weaker c.tell_what_came.result _ _
-    (λ why p. tell_failed (one_by_one (way g.C.Children.after g.C.Sources.clock g.C.Sources.wakes c.args.turn.now.manner.request.now.limit) c.args.turn.now.manner.request.now.chosen c.args.turn.now.manner.request.now.format) c.args.turn.now.field.now c.requires.chosen (at w c.args.driver.now.sources c.args.driver.now.host.store.disk) c.evaluate.new.driver.host c.evaluate.new.driver.sources
-    (came_if c.in-Ok.came.is_there (shown_in q.0 c.args.turn.now.field.now.id)) c.in-Ok.came.took q.0 q.1 q.2 (g.W.Write.contents c.args.writer.now)
+    (λ why p. tell_failed (one_by_one (way g.C.Children.after g.C.Sources.clock g.C.Sources.wakes c.args.place.now.manner.request.now.limit) c.args.place.now.manner.request.now.chosen c.args.place.now.manner.request.now.format) c.args.place.now.field.now c.requires.chosen (at w c.args.driver.now.sources c.args.driver.now.host.store.disk) c.evaluate.new.driver.host c.evaluate.new.driver.sources
+    (came_if c.in-Ok.came.is_there (shown_in q.0 c.args.place.now.field.now.id)) c.in-Ok.came.took q.0 q.1 q.2 (g.W.Write.contents c.args.writer.now)
     (g.W.Write.contents c.tell_what_came.new.writer) why p)
     c.tell_what_came.ensures.err

@@ -2,7 +2,7 @@ use Rattle.std.proofs.Common.{inl, inr, Err, ◌∷◌, ◌++◌, arith, length,
 use Rattle.offline_programs.specs.declared.fault.RunFault.{RunFault}
 use Rattle.session_engine.specs.declared.whole.Whole.{Whole}
 use Rattle.driver.specs.Place.{agenda_rules, rules, source_rules}
-use Rattle.driver.specs.Items.{take_whole}
+use Rattle.driver.specs.Items.{take_transaction}
 use Rattle.driver.specs.Runs.{DidSteps, left_by_answer, parts, seen}
 use Rattle.driver.specs.Steps.{most_together}
 use Rattle.driver.specs.inside.Wholes.{printing_whole}
@@ -32,7 +32,7 @@ returns-in-Err-clause-did g c =
     let R = rules (agenda_rules g.A.Agenda.rules g.A.Joins.joins) (source_rules g.S.Children.after g.S.Sources.wakes g.S.Sources.clock) g.K.Sink.rules in
     let here = parts c.args.self.now.host c.args.self.now.sources c.args.self.now.sink c.args.self.now.agenda in
     λ n rest w h.
-    subst (λ (why : RunFault). DidSteps R (seen n w here) (take_whole c.args.first c.args.edits ∷ rest)
+    subst (λ (why : RunFault). DidSteps R (seen n w here) (take_transaction c.args.first c.args.edits ∷ rest)
     (left_by_answer (λ (x : Whole). printing_whole c.args.first x ++ rest)) (Err why)
     (n, parts c.serve_whole.new.host c.args.self.now.sources c.args.self.now.sink c.args.self.now.agenda)) (sym c.whole_fault.ensures)
     (failed_whole R n rest w c.args.self.now.host h c.args.first c.args.edits c.args.self.now.sources c.args.self.now.sink c.args.self.now.agenda _ c.serve_whole.new.host c.in-Err.fault (c.in-Err.ensures.err w h))

@@ -9,7 +9,7 @@ returns-in-Some g c = λ w h none.
     let a = c.args.self.now in
     let late = c.in-Some.late in
     interrupts late.place late.id c.requires.held none (subst (λ (l : List ℕ). IsLateNow l a.stand w c.args.now late.place late.id) c.as_slice.ensures
-    (c.in-Some.ensures.some w h)) (ap Ok (c.warn.ensures.turn w h)) c.warn.ensures.stands
+    (c.in-Some.ensures.some w h)) (ap Ok (c.warn.ensures.action w h)) c.warn.ensures.stands
 
 pub returns-in-None : goal.returns-in-None
 returns-in-None g c = λ w h none.

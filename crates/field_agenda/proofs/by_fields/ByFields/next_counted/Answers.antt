@@ -1,7 +1,7 @@
 use Rattle.std.proofs.Common.{◌∙◌, ap, subst, sym}
 use Rattle.std.specs.Prelude.{Ok}
 use Rattle.line_agenda.specs.Matters.{others}
-use Rattle.driver.specs.declared.turn.Turn.TheVariants as turn
+use Rattle.driver.specs.declared.action.Action.TheVariants as action
 use Rattle.field_agenda.specs.declared.stage.FieldDoing.TheVariants as doing
 use Rattle.field_agenda.specs.Says.{GoesUnheard, goes_unheard, hears}
 use Rattle.field_agenda.specs.Standing.{does_now}
@@ -11,7 +11,7 @@ pub returns-in-Some : goal.returns-in-Some
 returns-in-Some g c = λ w h.
     let still = c.take_due.ensures.stands in
     let seat = c.in-Some.seat in
-    hears seat (sym c.in-Some.ensures.due) (ap Ok (c.hear.ensures.turn ∙ ap (λ a. turn.Hear seat (others a.plan.strict)) still)) (c.hear.ensures.stands ∙ ap (λ a. does_now a doing.Life) still)
+    hears seat (sym c.in-Some.ensures.due) (ap Ok (c.hear.ensures.action ∙ ap (λ a. action.Hear seat (others a.plan.strict)) still)) (c.hear.ensures.stands ∙ ap (λ a. does_now a doing.Life) still)
 
 pub returns-in-None : goal.returns-in-None
 returns-in-None g c = λ w h.

@@ -11,4 +11,4 @@ returns-in-New g c = λ w h.
 pub returns-in-Going : goal.returns-in-Going
 returns-in-Going g c = λ w h.
     let a = c.args.self.now in
-    subst (λ (how : Stage). SaysAt how (g.P.Programs.finds a.programs) a w c.args.now c.next_turn.result c.next_turn.new.self) (sym c.in-Going.is) (c.next_turn.ensures w h)
+    subst (λ (how : Stage). SaysAt how (g.P.Programs.finds a.programs) a w c.args.now c.next_action.result c.next_action.new.self) (sym c.in-Going.is) (c.next_action.ensures w h)

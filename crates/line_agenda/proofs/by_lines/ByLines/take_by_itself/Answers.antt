@@ -10,7 +10,7 @@ returns-in-Ok g c = λ w h. (
   asks_same c.reading-at.result.manner c.args.self.now.manner c.reading-at.result.number _ w c.reading-at.result.now c.args.now (live_line_of c.line.result.now)
       (live_line_of c.args.self.now.lines.held.line) c.in-Ok.chosen
       c.reading-at.ensures.manner c.reading-at.ensures.number c.reading-at.ensures.now (ap live_line_of c.line.ensures) (c.in-Ok.ensures.ok w h),
-  c.follow.ensures.turn,
+  c.follow.ensures.action,
   c.follow.ensures.stands,
 )
 

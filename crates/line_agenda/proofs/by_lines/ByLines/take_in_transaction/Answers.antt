@@ -8,7 +8,7 @@ pub returns-in-Ok : goal.returns-in-Ok
 returns-in-Ok g c = λ w. (
   c.in-Ok.chosen,
   c.in-Ok.ensures.ok ∙ ap (λ bytes. asked_in c.args.transaction (c.args.self.now.number + 1) (live_line_of bytes)) c.line.ensures,
-  c.follow.ensures.turn,
+  c.follow.ensures.action,
   c.follow.ensures.stands,
 )
 

@@ -25,6 +25,6 @@ returns g c = λ w h.
     let there = some_gathered before.buffer k.held c.gather-events.result.items gathered (omega (arith, c.if-count-eq0.false, c.len-count.ensures, c.gather-events.result.ok)) in
     let count : c.len-count.result ≡ length gathered.given = omega (arith, many, c.len-count.ensures, c.gather-events.result.ok) in
     together gathered.given k.held c.group.result alone.0 alone.1 gathered.each there.0 (omega (arith, many, c.gather-events.ensures.few)) there.1 gathered.gives refl
-    (subst (λ es. AsksLines (before.number + 1) es c.group.result) gathered.are c.group.ensures.turn)
+    (subst (λ es. AsksLines (before.number + 1) es c.group.result) gathered.are c.group.ensures.action)
     (c.group.ensures.stands ∙ ap (λ r. after_group (read_to before k.held (g.R.Read.remaining r)) c.len-count.result) c.gather-events.ensures.reader ∙ ap
     (λ n. after_group (read_to before k.held before.remaining) n) count)

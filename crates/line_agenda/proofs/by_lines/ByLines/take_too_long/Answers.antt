@@ -13,7 +13,7 @@ returns-in-None g c = λ w.
       c.bad.result,
       asks_same c.reading-at.result.manner c.args.self.now.manner c.reading-at.result.number _ w c.reading-at.result.now c.args.now None None c.bad.result
           c.reading-at.ensures.manner c.reading-at.ensures.number c.reading-at.ensures.now refl (c.bad.ensures w),
-      c.follow.ensures.turn,
+      c.follow.ensures.action,
       c.follow.ensures.stands,
     )
 
@@ -24,6 +24,6 @@ returns-in-Some g c = λ w.
     (sym c.in-Some.is ∙ c.replace.ensures.value) (
       c.break_at.result,
       c.break_at.ensures ∙ ap (λ n. breaks_transaction c.in-Some.transaction n) c.reading-at.ensures.number,
-      c.follow-in-Some.ensures.turn,
+      c.follow-in-Some.ensures.action,
       c.follow-in-Some.ensures.stands,
     )

@@ -1,6 +1,6 @@
 use Rattle.disk_model.specs.inside.Moments.{still}
 use Rattle.journal.proofs.Again.{flushed, flushing, turning}
-use Rattle.journal.proofs.rewrite.turn.Goals as goal
+use Rattle.journal.proofs.rewrite.activate.Goals as goal
 
 pub returns-in_err-write_at-clause-any_moment : goal.returns-in_err-write_at-clause-any_moment
 returns-in_err-write_at-clause-any_moment g c = λ model before payloads ready.

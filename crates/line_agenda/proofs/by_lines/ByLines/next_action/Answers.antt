@@ -3,11 +3,11 @@ use Rattle.std.specs.Prelude.{Ok}
 use Rattle.line_agenda.specs.declared.doing.Doing.TheVariants as doing
 use Rattle.line_agenda.specs.LinesAt.{doing_now, heeded, lines_stand, with_late}
 use Rattle.line_agenda.specs.Says.{IsAbout, SaysMatter, says, warns}
-use Rattle.line_agenda.proofs.by_lines.ByLines.next_turn.Goals as goal
+use Rattle.line_agenda.proofs.by_lines.ByLines.next_action.Goals as goal
 
 pub returns-in-Some : goal.returns-in-Some
 returns-in-Some g c = λ w h.
-    warns c.in-Some.seat c.next_late.new.self.late.items c.in-Some.ensures.some (ap Ok c.warn.ensures.turn)
+    warns c.in-Some.seat c.next_late.new.self.late.items c.in-Some.ensures.some (ap Ok c.warn.ensures.action)
     (c.warn.ensures.stands ∙ ap (λ a. doing_now a (doing.Warning c.in-Some.seat)) c.next_late.ensures.stands)
 
 pub returns-in-None : goal.returns-in-None

@@ -2,7 +2,7 @@ use Rattle.std.proofs.Common.{◌≡◌, ◌<◌, ◌≤◌, ◌^◌, ap, length
 use Rattle.std.specs.Prelude.{◌⊎◌}
 use Rattle.field_agenda.specs.Says.{uncounted}
 use Rattle.field_agenda.proofs.Choices.{beyond, full}
-use Rattle.field_agenda.proofs.by_fields.ByFields.next_turn.Goals as goal
+use Rattle.field_agenda.proofs.by_fields.ByFields.next_action.Goals as goal
 
 pub returns-then-is_full : goal.returns-then-is_full
 returns-then-is_full g c = λ w h.

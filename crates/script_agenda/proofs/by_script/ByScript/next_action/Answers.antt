@@ -2,7 +2,7 @@ use Rattle.std.proofs.Common.{ℕ, ◌∙◌, subst, sym}
 use Rattle.std.specs.Prelude.{Option}
 use Rattle.script_agenda.specs.Says.{SaysIn}
 use Rattle.script_agenda.specs.ScriptAt.{script_stand}
-use Rattle.script_agenda.proofs.by_script.ByScript.next_turn.Goals as goal
+use Rattle.script_agenda.proofs.by_script.ByScript.next_action.Goals as goal
 
 pub returns-in-Some : goal.returns-in-Some
 returns-in-Some g c = λ w h.

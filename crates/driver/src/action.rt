@@ -9,7 +9,7 @@ use worksheet::Name;
 
 /// What is done next.
 #[derive(Drop)]
-pub enum Turn {
+pub enum Action {
     /// No more: the run is at its end.
     End,
     /// Nothing for the driver: the agenda did a thing of its own, as reading its input or beginning a wait, and is asked again.
@@ -23,8 +23,8 @@ pub enum Turn {
     /// them: with one the run would end as where memory lacks.
     Lines(u64, Vec<Event>),
     /// These commands are taken as one group, all of them or none: one of each line from the one with this number on.
-    Whole(u64, Edits),
-    /// These commands are taken as one group: all of them, or up to the first that is refused.
+    Transaction(u64, Edits),
+    /// These commands are taken as one group: where the first word says so, up to the first that is refused, and else all of them, each with its own reply.
     Edits(bool, Edits),
     /// This event is taken by itself: it is durable, its effect is carried out, and what it gave is printed; then what comes of that.
     Alone(Event),

@@ -8,9 +8,9 @@ use crate::progress::{Progress, Sight};
 use check_report::{Counts, Judgement};
 use worksheet::Field;
 
-/// The turn of a field in a check.
+/// The place of a field in a check.
 #[derive(Clone, Copy)]
-pub(crate) struct FieldTurn<'a> {
+pub(crate) struct FieldPlace<'a> {
     pub(crate) manner: Manner<'a>,
     pub(crate) field: &'a Field,
     /// What those before it came to.
@@ -19,7 +19,7 @@ pub(crate) struct FieldTurn<'a> {
     pub(crate) all: u32,
 }
 
-impl FieldTurn<'_> {
+impl FieldPlace<'_> {
     /// Which case of the report the field is, where it is one.
     pub(crate) fn number(&self) -> u64
         requires { total self.now.counts < 2 ^ 31 }
