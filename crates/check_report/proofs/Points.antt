@@ -18,17 +18,17 @@ junits : (number : ℕ) (cases : List Case) → cases_text format.Junit number c
 junits number [] = refl
 junits number (c ∷ cases) = ap (λ t. junit_case (point_of c) ++ t) (junits (number + 1) cases)
 
-words : (number : ℕ) (cases : List Case) → cases_text format.Text number cases ≡ flat_map (λ c. verdict_text c.field c.came c.verdict) cases
+words : (number : ℕ) (cases : List Case) → cases_text format.Text number cases ≡ flat_map (λ c. verdict_text c.field c.came c.lost c.verdict) cases
 words number [] = refl
-words number (c ∷ cases) = ap (λ t. verdict_text c.field c.came c.verdict ++ t) (words (number + 1) cases)
+words number (c ∷ cases) = ap (λ t. verdict_text c.field c.came c.lost c.verdict ++ t) (words (number + 1) cases)
 
-whole : (number : ℕ) (cases : List Case) → cases_text format.Whole number cases ≡ flat_map (λ c. whole_text c.field c.came c.verdict) cases
+whole : (number : ℕ) (cases : List Case) → cases_text format.Whole number cases ≡ flat_map (λ c. whole_text c.field c.came c.lost c.verdict) cases
 whole number [] = refl
-whole number (c ∷ cases) = ap (λ t. whole_text c.field c.came c.verdict ++ t) (whole (number + 1) cases)
+whole number (c ∷ cases) = ap (λ t. whole_text c.field c.came c.lost c.verdict ++ t) (whole (number + 1) cases)
 
-accepted : (number : ℕ) (cases : List Case) → cases_text format.Accepting number cases ≡ flat_map (λ c. acceptance_text c.field c.came c.verdict) cases
+accepted : (number : ℕ) (cases : List Case) → cases_text format.Accepting number cases ≡ flat_map (λ c. acceptance_text c.field c.came c.lost c.verdict) cases
 accepted number [] = refl
-accepted number (c ∷ cases) = ap (λ t. acceptance_text c.field c.came c.verdict ++ t) (accepted (number + 1) cases)
+accepted number (c ∷ cases) = ap (λ t. acceptance_text c.field c.came c.lost c.verdict ++ t) (accepted (number + 1) cases)
 
 points-length : (cases : List Case) → length (map point_of cases) ≡ length cases
 points-length [] = refl

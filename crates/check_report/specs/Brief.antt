@@ -3,6 +3,7 @@ use Rattle.std.specs.Prelude.{ℕ, ◌/◌, ◌%◌, Bool, List, [], ◌∷◌, 
 use Rattle.std.specs.Fmt.{decimal}
 use Rattle.std.specs.List.{flat_map}
 use Rattle.sha2.specs.Sha256.{sha256}
+use Rattle.block_tree.specs.declared.reason.Reason.{Reason}
 use Rattle.block_tree.specs.Tree.{Items, Tree, Piece, end, text, block, text_piece, block_piece}
 use Rattle.worksheet.specs.declared.field.Answer.{Answer}
 use Rattle.sheet_text.specs.Escape.{hex, on_lines}
@@ -46,7 +47,7 @@ abbrev pub piece_brief : Piece → List ℕ
 piece_brief (text_piece t) = on_lines t
 piece_brief (block_piece b) = brief_text b
 
--- the output in whole lines, or `?` where there is none
-abbrev pub brief_lines : Option Answer → List ℕ
-brief_lines None = no_answer_line None
-brief_lines (Some answer) = in_lines (brief_text answer.output)
+-- the output in whole lines; where there is none `?`, and the reason for that if there is one, as `print` has them
+abbrev pub brief_lines : Option Answer → Option Reason → List ℕ
+brief_lines None lost = no_answer_line lost
+brief_lines (Some answer) lost = in_lines (brief_text answer.output)

@@ -59,9 +59,9 @@ ReportsAreTheirTexts = (cases : List Case)
     → (report_text format.Tap cases ≡ tap_text (map point_of cases))
     × (report_text format.Junit cases ≡ junit_text (map point_of cases))
     × (report_text format.Json cases ≡ tellings_text (report_tellings cases))
-    × (report_text format.Text cases ≡ flat_map (λ c. verdict_text c.field c.came c.verdict) cases ++ counts_text (counts_of (judgements_of cases)))
-    × (report_text format.Whole cases ≡ flat_map (λ c. whole_text c.field c.came c.verdict) cases ++ counts_text (counts_of (judgements_of cases)))
-    × (report_text format.Accepting cases ≡ flat_map (λ c. acceptance_text c.field c.came c.verdict) cases ++ accepted_counts_text (counts_of (judgements_of cases)))
+    × (report_text format.Text cases ≡ flat_map (λ c. verdict_text c.field c.came c.lost c.verdict) cases ++ counts_text (counts_of (judgements_of cases)))
+    × (report_text format.Whole cases ≡ flat_map (λ c. whole_text c.field c.came c.lost c.verdict) cases ++ counts_text (counts_of (judgements_of cases)))
+    × (report_text format.Accepting cases ≡ flat_map (λ c. acceptance_text c.field c.came c.lost c.verdict) cases ++ accepted_counts_text (counts_of (judgements_of cases)))
 
 -- Without its comments and blocks of YAML a report as TAP has these lines, one by one: the version, a point for each field, numbered from 1, and the
 -- plan. So what an interpreter wrote is in comments alone.

@@ -41,7 +41,7 @@ case_in c = case c.field.now c.came.now c.lost c.verdict c.took
 
 -- what is said of it in a format that programs read
 abbrev pub point_of : Case → Point
-point_of c = point c.field.id c.field.session c.field.input c.verdict c.took (verdict_text c.field c.came c.verdict)
+point_of c = point c.field.id c.field.session c.field.input c.verdict c.took (verdict_text c.field c.came c.lost c.verdict)
 
 -- what cases are counted as
 abbrev pub judgements_of : List Case → List Judgement
@@ -62,12 +62,12 @@ opening_text format.Accepting = []
 
 -- what is written of a case, of which this is the number
 abbrev pub case_text : Format → ℕ → Case → List ℕ
-case_text format.Text number c = verdict_text c.field c.came c.verdict
-case_text format.Whole number c = whole_text c.field c.came c.verdict
+case_text format.Text number c = verdict_text c.field c.came c.lost c.verdict
+case_text format.Whole number c = whole_text c.field c.came c.lost c.verdict
 case_text format.Tap number c = tap_point number (point_of c)
 case_text format.Junit number c = junit_case (point_of c)
 case_text format.Json number c = telling_line (telling_of c)
-case_text format.Accepting number c = acceptance_text c.field c.came c.verdict
+case_text format.Accepting number c = acceptance_text c.field c.came c.lost c.verdict
 
 -- the same of cases, one after another, of which the first has this number
 abbrev pub cases_text : Format → ℕ → List Case → List ℕ

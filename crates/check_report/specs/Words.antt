@@ -4,6 +4,7 @@ use Rattle.std.specs.Fmt.{decimal}
 use Rattle.std.specs.List.{flat_map}
 use Rattle.std.specs.Str.{bytes_eq}
 use Rattle.bstr.specs.Text.{lines_of}
+use Rattle.block_tree.specs.declared.reason.Reason.{Reason}
 use Rattle.worksheet.specs.declared.field.Answer.{Answer}
 use Rattle.worksheet.specs.declared.field.Field.{Field}
 use Rattle.sheet_text.specs.Texts.{input_line, number_line}
@@ -23,9 +24,10 @@ abbrev pub difference_of : Field → List ℕ → List ℕ → List ℕ
 difference_of field shown came = number_line field ++ (input_line field ++ (marked (codes "- ") shown ++ marked (codes "+ ") came))
 
 -- A field, and how the answer that came differs from the one that it shows: its lines as `print` has them, but those of the output
--- with `- ` in front, each picture on one line, and after them those of the output that came with `+ `, or `+ ?` where none came.
-abbrev pub difference_text : Field → Option Answer → List ℕ
-difference_text field came = difference_of field (brief_lines field.answer) (brief_lines came)
+-- with `- ` in front, each picture on one line, and after them those of the output that came with `+ `. Where none came that is `+ ?`,
+-- and the reason that the field then shows, if it shows one.
+abbrev pub difference_text : Field → Option Answer → Option Reason → List ℕ
+difference_text field came lost = difference_of field (brief_lines field.answer field.lost) (brief_lines came lost)
 
 -- how the output of a field became another: that both are the same in print, or where they differ
 abbrev pub changed_lines : Hunk → List ℕ → List ℕ → List ℕ
@@ -40,44 +42,44 @@ change_between field shown came = change_of (hunk_of (lines_of shown) (lines_of 
 
 -- A field, and where the answer that came differs from the one that it shows: its lines as `print` has them, but in place of its output
 -- the hunk that turns it into the output that came.
-abbrev pub change_text : Field → Option Answer → List ℕ
-change_text field came = change_between field (brief_lines field.answer) (brief_lines came)
+abbrev pub change_text : Field → Option Answer → Option Reason → List ℕ
+change_text field came lost = change_between field (brief_lines field.answer field.lost) (brief_lines came lost)
 
 -- the lines of a field, and those of an output with their mark
 abbrev pub addition_of : Field → List ℕ → List ℕ
 addition_of field came = number_line field ++ (input_line field ++ marked (codes "+ ") came)
 
 -- A field that shows no answer, and the one that came: its lines as `print` has them, but those of the output with `+ ` in front.
-abbrev pub new_text : Field → Option Answer → List ℕ
-new_text field came = addition_of field (brief_lines came)
+abbrev pub new_text : Field → Option Answer → Option Reason → List ℕ
+new_text field came lost = addition_of field (brief_lines came lost)
 
 -- what is written of a field that came to this, with whole outputs
-abbrev pub whole_text : Field → Option Answer → Verdict → List ℕ
-whole_text field came verdict.Same = []
-whole_text field came verdict.Differs = difference_text field came
-whole_text field came verdict.Unanswered = difference_text field came
-whole_text field came verdict.LeftOut = []
-whole_text field came verdict.New = new_text field came
+abbrev pub whole_text : Field → Option Answer → Option Reason → Verdict → List ℕ
+whole_text field came lost verdict.Same = []
+whole_text field came lost verdict.Differs = difference_text field came lost
+whole_text field came lost verdict.Unanswered = difference_text field came lost
+whole_text field came lost verdict.LeftOut = []
+whole_text field came lost verdict.New = new_text field came lost
 
 -- what is written of a field that came to this
-abbrev pub verdict_text : Field → Option Answer → Verdict → List ℕ
-verdict_text field came verdict.Same = []
-verdict_text field came verdict.Differs = change_text field came
-verdict_text field came verdict.Unanswered = difference_text field came
-verdict_text field came verdict.LeftOut = []
-verdict_text field came verdict.New = new_text field came
+abbrev pub verdict_text : Field → Option Answer → Option Reason → Verdict → List ℕ
+verdict_text field came lost verdict.Same = []
+verdict_text field came lost verdict.Differs = change_text field came lost
+verdict_text field came lost verdict.Unanswered = difference_text field came lost
+verdict_text field came lost verdict.LeftOut = []
+verdict_text field came lost verdict.New = new_text field came lost
 
 -- the line that says that the answer which came to this field is accepted
 abbrev pub accepted_line : ℕ → List ℕ
 accepted_line id = codes "accepted " ++ decimal id ++ 10 ∷ []
 
 -- what is written of a field that came to this, where answers that differ are accepted
-abbrev pub acceptance_text : Field → Option Answer → Verdict → List ℕ
-acceptance_text field came verdict.Same = []
-acceptance_text field came verdict.Differs = change_text field came ++ accepted_line field.id
-acceptance_text field came verdict.Unanswered = difference_text field came
-acceptance_text field came verdict.LeftOut = []
-acceptance_text field came verdict.New = new_text field came ++ accepted_line field.id
+abbrev pub acceptance_text : Field → Option Answer → Option Reason → Verdict → List ℕ
+acceptance_text field came lost verdict.Same = []
+acceptance_text field came lost verdict.Differs = change_text field came lost ++ accepted_line field.id
+acceptance_text field came lost verdict.Unanswered = difference_text field came lost
+acceptance_text field came lost verdict.LeftOut = []
+acceptance_text field came lost verdict.New = new_text field came lost ++ accepted_line field.id
 
 -- how many were left out, where some were
 abbrev pub left_out_part : ℕ → List ℕ

@@ -10,10 +10,10 @@ ghost use Rattle.sheet_text.specs.Texts as printed;
 ghost use Rattle.check_report.specs.Brief as brief;
 
 use crate::writing::write_bytes;
-use block_tree::{Item, Node, Tag};
+use block_tree::{Item, Node, Reason, Tag};
 use sha2::{Digest, Sha256};
 use sheet_notebook::picture_text;
-use sheet_text::{WriteFault, hex_digit, is_bare_tag, write_line, write_lines};
+use sheet_text::{WriteFault, hex_digit, is_bare_tag, write_line, write_lines, write_no_answer};
 use std::alloc::Global;
 use std::io::Write;
 use worksheet::Answer;
@@ -140,24 +140,28 @@ fn whole_lines(text: Vec<u8>) -> Option<Vec<u8>>
     }
 }
 
-/// The line of a field without an answer.
-fn no_answer(alloc: Global) -> Option<Vec<u8>>
-    ensures { IfSome result (λ lines. lines.items ≡ no_answer_line Option.None) }
+/// The line of a field without an answer, with the reason for that if there is one.
+fn no_answer(alloc: Global, lost: Option<Reason>) -> Option<Vec<u8>>
+    ensures { IfSome result (λ lines. lines.items ≡ no_answer_line lost) }
 {
     let mut text = Vec::new(alloc);
-    match write_bytes(b"?\n", &mut text) {
+    match write_no_answer(lost, &mut text) {
         Ok(()) => Some(text),
         Err(_) => None,
     }
 }
 
-/// The output of an answer in whole lines, as a report shows it, or `?` where there is none, in memory. None where
-/// there is no memory for it.
-pub(crate) fn brief_in_memory(alloc: Global, answer: &Option<Answer>) -> Option<Vec<u8>>
-    ensures { IfSome result (λ lines. lines.items ≡ brief.brief_lines answer.now) }
+/// The output of an answer in whole lines, as a report shows it, in memory; or `?` where there is none, with the reason
+/// for that if there is one. None where there is no memory for it.
+pub(crate) fn brief_in_memory(
+    alloc: Global,
+    answer: &Option<Answer>,
+    lost: Option<Reason>,
+) -> Option<Vec<u8>>
+    ensures { IfSome result (λ lines. lines.items ≡ brief.brief_lines answer.now lost) }
 {
     let Some(answer) = answer else {
-        return no_answer(alloc);
+        return no_answer(alloc, lost);
     };
     let mut text = Vec::new(alloc);
     match write_brief(answer.output.node(), &mut text) {

@@ -143,10 +143,11 @@ fn report_point<W: Write>(alloc: Global, case: &Case<'_>, writer: &mut W) -> Res
     ensures ok { OnOk result (Appends (W.contents writer.old) (W.contents writer.new)
         (taps.tap_point case.now.number (point case.now.field.now.id case.now.field.now.session
         case.now.field.now.input case.now.verdict case.now.took
-        (printed.verdict_text case.now.field.now case.now.came.now case.now.verdict)))) }
+        (printed.verdict_text case.now.field.now case.now.came.now case.now.lost case.now.verdict)))) }
     ensures err { IfErr result (Unreported (W.contents writer.old) (W.contents writer.new)) }
 {
-    let Some(reported) = verdict_in_memory(alloc, case.field, case.came, case.verdict) else {
+    let Some(reported) = verdict_in_memory(alloc, case.field, case.came, case.lost, case.verdict)
+    else {
         return Err(ReportFault::OutOfMemory);
     };
     match write_as_point(case, reported.as_slice(), writer) {
@@ -160,10 +161,11 @@ fn report_junit<W: Write>(alloc: Global, case: &Case<'_>, writer: &mut W) -> Res
     ensures ok { OnOk result (Appends (W.contents writer.old) (W.contents writer.new)
         (junits.junit_case (point case.now.field.now.id case.now.field.now.session
         case.now.field.now.input case.now.verdict case.now.took
-        (printed.verdict_text case.now.field.now case.now.came.now case.now.verdict)))) }
+        (printed.verdict_text case.now.field.now case.now.came.now case.now.lost case.now.verdict)))) }
     ensures err { IfErr result (Unreported (W.contents writer.old) (W.contents writer.new)) }
 {
-    let Some(reported) = verdict_in_memory(alloc, case.field, case.came, case.verdict) else {
+    let Some(reported) = verdict_in_memory(alloc, case.field, case.came, case.lost, case.verdict)
+    else {
         return Err(ReportFault::OutOfMemory);
     };
     match write_as_case(case, reported.as_slice(), writer) {

@@ -14,6 +14,7 @@ use crate::words::{
     write_difference,
 };
 use crate::writing::write_and_flush;
+use block_tree::Reason;
 use sheet_text::WriteFault;
 use std::alloc::Global;
 use std::io::Write;
@@ -39,13 +40,14 @@ fn report_difference<W: Write>(
     alloc: Global,
     field: &Field,
     came: &Option<Answer>,
+    lost: Option<Reason>,
     writer: &mut W,
 ) -> Result<(), ReportFault>
     ensures ok { OnOk result (Appends (W.contents writer.old) (W.contents writer.new)
-        (printed.difference_text field.now came.now)) }
+        (printed.difference_text field.now came.now lost)) }
     ensures err { IfErr result (Unreported (W.contents writer.old) (W.contents writer.new)) }
 {
-    let Some(both) = outputs_in_memory(alloc, field, came) else {
+    let Some(both) = outputs_in_memory(alloc, field, came, lost) else {
         return Err(ReportFault::OutOfMemory);
     };
     match write_words(field, both.shown.as_slice(), both.came.as_slice(), writer) {
@@ -74,13 +76,14 @@ fn report_change<W: Write>(
     alloc: Global,
     field: &Field,
     came: &Option<Answer>,
+    lost: Option<Reason>,
     writer: &mut W,
 ) -> Result<(), ReportFault>
     ensures ok { OnOk result (Appends (W.contents writer.old) (W.contents writer.new)
-        (printed.change_text field.now came.now)) }
+        (printed.change_text field.now came.now lost)) }
     ensures err { IfErr result (Unreported (W.contents writer.old) (W.contents writer.new)) }
 {
-    let Some(both) = outputs_in_memory(alloc, field, came) else {
+    let Some(both) = outputs_in_memory(alloc, field, came, lost) else {
         return Err(ReportFault::OutOfMemory);
     };
     let Some(hunk) = find_hunk(alloc, both.shown.as_slice(), both.came.as_slice()) else {
@@ -107,13 +110,14 @@ fn report_addition<W: Write>(
     alloc: Global,
     field: &Field,
     came: &Option<Answer>,
+    lost: Option<Reason>,
     writer: &mut W,
 ) -> Result<(), ReportFault>
     ensures ok { OnOk result (Appends (W.contents writer.old) (W.contents writer.new)
-        (printed.new_text field.now came.now)) }
+        (printed.new_text field.now came.now lost)) }
     ensures err { IfErr result (Unreported (W.contents writer.old) (W.contents writer.new)) }
 {
-    let Some(came) = brief_in_memory(alloc, came) else {
+    let Some(came) = brief_in_memory(alloc, came, lost) else {
         return Err(ReportFault::OutOfMemory);
     };
     match write_added(field, came.as_slice(), writer) {
@@ -129,15 +133,16 @@ pub(crate) fn report_whole<W: Write>(
     writer: &mut W,
 ) -> Result<(), ReportFault>
     ensures ok { OnOk result (Appends (W.contents writer.old) (W.contents writer.new)
-        (printed.whole_text case.now.field.now case.now.came.now case.now.verdict)) }
+        (printed.whole_text case.now.field.now case.now.came.now case.now.lost
+        case.now.verdict)) }
     ensures err { IfErr result (Unreported (W.contents writer.old) (W.contents writer.new)) }
 {
     match case.verdict {
         Verdict::Same | Verdict::LeftOut => Ok(()),
         Verdict::Differs | Verdict::Unanswered => report_difference(
-            alloc, case.field, case.came, writer,
+            alloc, case.field, case.came, case.lost, writer,
         ),
-        Verdict::New => report_addition(alloc, case.field, case.came, writer),
+        Verdict::New => report_addition(alloc, case.field, case.came, case.lost, writer),
     }
 }
 
@@ -148,14 +153,15 @@ pub(crate) fn report_words<W: Write>(
     writer: &mut W,
 ) -> Result<(), ReportFault>
     ensures ok { OnOk result (Appends (W.contents writer.old) (W.contents writer.new)
-        (printed.verdict_text case.now.field.now case.now.came.now case.now.verdict)) }
+        (printed.verdict_text case.now.field.now case.now.came.now case.now.lost
+        case.now.verdict)) }
     ensures err { IfErr result (Unreported (W.contents writer.old) (W.contents writer.new)) }
 {
     match case.verdict {
         Verdict::Same | Verdict::LeftOut => Ok(()),
-        Verdict::Differs => report_change(alloc, case.field, case.came, writer),
-        Verdict::Unanswered => report_difference(alloc, case.field, case.came, writer),
-        Verdict::New => report_addition(alloc, case.field, case.came, writer),
+        Verdict::Differs => report_change(alloc, case.field, case.came, case.lost, writer),
+        Verdict::Unanswered => report_difference(alloc, case.field, case.came, case.lost, writer),
+        Verdict::New => report_addition(alloc, case.field, case.came, case.lost, writer),
     }
 }
 
@@ -166,10 +172,12 @@ pub(crate) fn report_accepting<W: Write>(
     writer: &mut W,
 ) -> Result<(), ReportFault>
     ensures ok { OnOk result (Appends (W.contents writer.old) (W.contents writer.new)
-        (printed.acceptance_text case.now.field.now case.now.came.now case.now.verdict)) }
+        (printed.acceptance_text case.now.field.now case.now.came.now case.now.lost
+        case.now.verdict)) }
     ensures err { IfErr result (Unreported (W.contents writer.old) (W.contents writer.new)) }
 {
-    let Some(reported) = acceptance_in_memory(alloc, case.field, case.came, case.verdict) else {
+    let Some(reported) = acceptance_in_memory(alloc, case.field, case.came, case.lost, case.verdict)
+    else {
         return Err(ReportFault::OutOfMemory);
     };
     match write_and_flush(reported.as_slice(), writer) {

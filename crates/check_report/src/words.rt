@@ -8,6 +8,7 @@ use crate::brief::brief_in_memory;
 use crate::hunks::{Hunk, find_hunk, write_hunk};
 use crate::verdict::{Counts, Verdict};
 use crate::writing::write_bytes;
+use block_tree::Reason;
 use bstr::ByteSlice;
 use sheet_text::{WriteFault, write_input, write_number};
 use std::alloc::Global;
@@ -26,14 +27,15 @@ pub(crate) fn outputs_in_memory(
     alloc: Global,
     field: &Field,
     came: &Option<Answer>,
+    lost: Option<Reason>,
 ) -> Option<Outputs>
-    ensures shown { IfSome result (λ both. both.shown.items ≡ brief_lines field.now.answer) }
-    ensures came { IfSome result (λ both. both.came.items ≡ brief_lines came.now) }
+    ensures shown { IfSome result (λ both. both.shown.items ≡ brief_lines field.now.answer field.now.lost) }
+    ensures came { IfSome result (λ both. both.came.items ≡ brief_lines came.now lost) }
 {
-    let Some(shown) = brief_in_memory(alloc, &field.answer) else {
+    let Some(shown) = brief_in_memory(alloc, &field.answer, field.lost) else {
         return Option::None;
     };
-    match brief_in_memory(alloc, came) {
+    match brief_in_memory(alloc, came, lost) {
         Some(came) => Some(Outputs { shown, came }),
         None => Option::None,
     }
@@ -114,10 +116,15 @@ pub(crate) fn write_change<W: Write>(
 }
 
 /// Where the output of an answer differs from that of its field, in memory.
-fn change_in_memory(alloc: Global, field: &Field, came: &Option<Answer>) -> Option<Vec<u8>>
-    ensures { IfSome result (λ text. text.items ≡ printed.change_text field.now came.now) }
+fn change_in_memory(
+    alloc: Global,
+    field: &Field,
+    came: &Option<Answer>,
+    lost: Option<Reason>,
+) -> Option<Vec<u8>>
+    ensures { IfSome result (λ text. text.items ≡ printed.change_text field.now came.now lost) }
 {
-    let Some(both) = outputs_in_memory(alloc, field, came) else {
+    let Some(both) = outputs_in_memory(alloc, field, came, lost) else {
         return Option::None;
     };
     let Some(hunk) = find_hunk(alloc, both.shown.as_slice(), both.came.as_slice()) else {
@@ -131,10 +138,15 @@ fn change_in_memory(alloc: Global, field: &Field, came: &Option<Answer>) -> Opti
 }
 
 /// How an answer differs from that of its field, or that none came, in memory.
-fn difference_in_memory(alloc: Global, field: &Field, came: &Option<Answer>) -> Option<Vec<u8>>
-    ensures { IfSome result (λ text. text.items ≡ printed.difference_text field.now came.now) }
+fn difference_in_memory(
+    alloc: Global,
+    field: &Field,
+    came: &Option<Answer>,
+    lost: Option<Reason>,
+) -> Option<Vec<u8>>
+    ensures { IfSome result (λ text. text.items ≡ printed.difference_text field.now came.now lost) }
 {
-    let Some(both) = outputs_in_memory(alloc, field, came) else {
+    let Some(both) = outputs_in_memory(alloc, field, came, lost) else {
         return Option::None;
     };
     let mut text = Vec::new(alloc);
@@ -165,10 +177,15 @@ pub(crate) fn write_addition<W: Write>(
 }
 
 /// The same in memory.
-fn addition_in_memory(alloc: Global, field: &Field, came: &Option<Answer>) -> Option<Vec<u8>>
-    ensures { IfSome result (λ text. text.items ≡ printed.new_text field.now came.now) }
+fn addition_in_memory(
+    alloc: Global,
+    field: &Field,
+    came: &Option<Answer>,
+    lost: Option<Reason>,
+) -> Option<Vec<u8>>
+    ensures { IfSome result (λ text. text.items ≡ printed.new_text field.now came.now lost) }
 {
-    let Some(came) = brief_in_memory(alloc, came) else {
+    let Some(came) = brief_in_memory(alloc, came, lost) else {
         return Option::None;
     };
     let mut text = Vec::new(alloc);
@@ -183,16 +200,17 @@ pub(crate) fn verdict_in_memory(
     alloc: Global,
     field: &Field,
     came: &Option<Answer>,
+    lost: Option<Reason>,
     verdict: Verdict,
 ) -> Option<Vec<u8>>
     ensures { IfSome result (λ text. text.items
-        ≡ printed.verdict_text field.now came.now verdict) }
+        ≡ printed.verdict_text field.now came.now lost verdict) }
 {
     match verdict {
         Verdict::Same | Verdict::LeftOut => Some(Vec::new(alloc)),
-        Verdict::Differs => change_in_memory(alloc, field, came),
-        Verdict::Unanswered => difference_in_memory(alloc, field, came),
-        Verdict::New => addition_in_memory(alloc, field, came),
+        Verdict::Differs => change_in_memory(alloc, field, came, lost),
+        Verdict::Unanswered => difference_in_memory(alloc, field, came, lost),
+        Verdict::New => addition_in_memory(alloc, field, came, lost),
     }
 }
 
@@ -221,19 +239,20 @@ pub fn acceptance_in_memory(
     alloc: Global,
     field: &Field,
     came: &Option<Answer>,
+    lost: Option<Reason>,
     verdict: Verdict,
 ) -> Option<Vec<u8>>
     ensures { IfSome result (λ text. text.items
-        ≡ printed.acceptance_text field.now came.now verdict) }
+        ≡ printed.acceptance_text field.now came.now lost verdict) }
 {
     match verdict {
         Verdict::Same | Verdict::LeftOut => Some(Vec::new(alloc)),
-        Verdict::Unanswered => difference_in_memory(alloc, field, came),
-        Verdict::Differs => match change_in_memory(alloc, field, came) {
+        Verdict::Unanswered => difference_in_memory(alloc, field, came, lost),
+        Verdict::Differs => match change_in_memory(alloc, field, came, lost) {
             Some(text) => with_accepted(text, field.id),
             None => Option::None,
         },
-        Verdict::New => match addition_in_memory(alloc, field, came) {
+        Verdict::New => match addition_in_memory(alloc, field, came, lost) {
             Some(text) => with_accepted(text, field.id),
             None => Option::None,
         },

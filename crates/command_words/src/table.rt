@@ -171,9 +171,10 @@ const CHECK_NOTES: &str =
 a copy in memory; the worksheet stays as it is. In the worksheet's order, where\n\
 another output comes, the field's line, its prompt and input, and a hunk of a diff\n\
 are written: with `- ` what it shows, with `+ ` what came, three lines around them;\n\
-where no answer came, all that it shows, and `+ ?`. With --whole, in words alone and\n\
-without --accept, both outputs are written whole. Prompts aren't compared. The last\n\
-line has the counts, as `same 4 differ 1 unanswered 0`.\n\n\
+where no answer came, all that it shows, and `+ ?` with the reason, if there is one.\n\
+With --whole, in words alone and without --accept, both outputs are written whole.\n\
+Prompts aren't compared. The last line has the counts, as\n\
+`same 4 differ 1 unanswered 0`.\n\n\
 With --all fields that show no answer are evaluated too, in their places. An answer\n\
 to one of them is new: it is written with `+ `, and counted as `new 2` at the end.\n\n\
 With --format it reports each field as a test: as a point of TAP 13, or as a case\n\

@@ -29,12 +29,12 @@ accepts_none 'nothing that differs' 0 'same 1 accepted 0 unanswered 0\n' '#1 a\n
 # One that differs is accepted, and one that gets no answer isn't.
 made "$a"'new 0 a one\nnew 1 a differs\nnew 2 a hangs\nnew 3 a four\neval 1\neval 2\neval 3\neval 4\nwait\n'
 was=$(changes)
-accepts 'one of four' 1 '#2 a\na] differs\n- differs\n+ another\naccepted 2\n#3 a\na] hangs\n- hangs\n+ ?\nsame 2 accepted 1 unanswered 1\n' \
+accepts 'one of four' 1 '#2 a\na] differs\n- differs\n+ another\naccepted 2\n#3 a\na] hangs\n- hangs\n+ ? Ended\nsame 2 accepted 1 unanswered 1\n' \
     '#1 a\na] one\none\n#2 a\na] differs\nanother\n#3 a\na] hangs\nhangs\n#4 a\na] four\nfour\n'
 sent 'one of four' 'start a\nsend a one\nsend a differs\nsend a hangs\nstart a\nsend a four'
 ended 'one of four' 2
 compare 'one of four, one change' "$was $(changes)" "$(printf 'kept 13, whole kept 14, whole')"
-accepts_none 'one of four, again' 1 '#3 a\na] hangs\n- hangs\n+ ?\nsame 3 accepted 0 unanswered 1\n' \
+accepts_none 'one of four, again' 1 '#3 a\na] hangs\n- hangs\n+ ? Ended\nsame 3 accepted 0 unanswered 1\n' \
     '#1 a\na] one\none\n#2 a\na] differs\nanother\n#3 a\na] hangs\nhangs\n#4 a\na] four\nfour\n'
 
 # All that differ, in the order of the worksheet; then nothing differs any more.
@@ -82,8 +82,8 @@ accepts_none 'new ones, again' 0 'same 5 accepted 0 unanswered 0\n' \
     '#1 a\na] x\nx\n#2 a\na] longer\none\ntwo\nthree\n#3 a\na] differs\nanother\n#4 a\na] prompts\nprompts\n#5 a\nnew> z\nz\n' --all
 made "$a"'new 0 a hangs\nnew 1 a y\n'
 accepts_none 'new ones that are not asked for' 0 'same 0 accepted 0 unanswered 0\n' '#1 a\n> hangs\n?\n#2 a\n> y\n?\n'
-accepts 'a new one beside one that gets no answer' 1 '#1 a\n> hangs\n- ?\n+ ?\n#2 a\n> y\n+ y\naccepted 2\nsame 0 accepted 0 unanswered 1 new 1\n' '#1 a\n> hangs\n?\n#2 a\na] y\ny\n' --all
-accepts_none 'one that gets no answer, again' 1 '#1 a\n> hangs\n- ?\n+ ?\nsame 1 accepted 0 unanswered 1\n' '#1 a\n> hangs\n?\n#2 a\na] y\ny\n' --all
+accepts 'a new one beside one that gets no answer' 1 '#1 a\n> hangs\n- ?\n+ ? Ended\n#2 a\n> y\n+ y\naccepted 2\nsame 0 accepted 0 unanswered 1 new 1\n' '#1 a\n> hangs\n?\n#2 a\na] y\ny\n' --all
+accepts_none 'one that gets no answer, again' 1 '#1 a\n> hangs\n- ?\n+ ? Ended\nsame 1 accepted 0 unanswered 1\n' '#1 a\n> hangs\n?\n#2 a\na] y\ny\n' --all
 rm -f gone.sh
 made 'session b plain ./gone.sh b\nnew 0 b x\neval 1\nwait\n'
 cp suite.sh gone.sh

@@ -26,7 +26,7 @@ checks 'an interpreter of its own' 1 '#1 c\n> x\n- 2\n+ 1\nsame 0 differ 1 unans
 # What differs.
 checked 'a suite of five' \
     "$a"'session b plain sh gone.sh b\nnew 0 a one\nnew 1 a differs\nnew 2 a hangs\nnew 3 b four\nnew 4 a five\nnew 5 a not evaluated\neval 1\neval 2\neval 3\neval 5\nwait\n' 1 \
-    '#2 a\na] differs\n- differs\n+ another\n#3 a\na] hangs\n- hangs\n+ ?\nsame 2 differ 1 unanswered 1\n'
+    '#2 a\na] differs\n- differs\n+ another\n#3 a\na] hangs\n- hangs\n+ ? Ended\nsame 2 differ 1 unanswered 1\n'
 sent 'a suite of five' 'start a\nsend a one\nsend a differs\nsend a hangs\nstart a\nsend a five'
 ended 'a suite of five' 2
 cp suite.sh gone.sh
@@ -36,12 +36,12 @@ sed -i '1i #!/bin/sh' gone.sh
 rm -f again
 printf 'eval 2\nwait\n' | "$tmhost" run sheet >/dev/null
 rm -f gone.sh
-checks 'a program that is gone' 1 '#2 b\nb] two\n- two\n+ ?\nsame 2 differ 0 unanswered 1\n'
+checks 'a program that is gone' 1 '#2 b\nb] two\n- two\n+ ? StartRefused\nsame 2 differ 0 unanswered 1\n'
 checked 'all that differs' "$a"'new 0 a differs\nnew 1 a hangs\nnew 2 a differs\nnew 3 a hangs\neval 1\neval 2\neval 3\neval 4\nwait\n' 1 \
-    '#1 a\na] differs\n- differs\n+ another\n#2 a\na] hangs\n- hangs\n+ ?\n#3 a\na] differs\n- differs\n+ another\n#4 a\na] hangs\n- hangs\n+ ?\nsame 0 differ 2 unanswered 2\n'
+    '#1 a\na] differs\n- differs\n+ another\n#2 a\na] hangs\n- hangs\n+ ? Ended\n#3 a\na] differs\n- differs\n+ another\n#4 a\na] hangs\n- hangs\n+ ? Ended\nsame 0 differ 2 unanswered 2\n'
 sent 'all that differs' 'start a\nsend a differs\nsend a hangs\nstart a\nsend a differs\nsend a hangs'
 checks 'the same again' 1 \
-    '#1 a\na] differs\n- differs\n+ another\n#2 a\na] hangs\n- hangs\n+ ?\n#3 a\na] differs\n- differs\n+ another\n#4 a\na] hangs\n- hangs\n+ ?\nsame 0 differ 2 unanswered 2\n'
+    '#1 a\na] differs\n- differs\n+ another\n#2 a\na] hangs\n- hangs\n+ ? Ended\n#3 a\na] differs\n- differs\n+ another\n#4 a\na] hangs\n- hangs\n+ ? Ended\nsame 0 differ 2 unanswered 2\n'
 checked 'prompts that differ' "$a"'new 0 a prompts\nnew 1 a y\nnew 2 a inputs\neval 1\neval 2\neval 3\nwait\n' 0 'same 3 differ 0 unanswered 0\n'
 checked 'an output of more lines' "$a"'new 0 a longer\neval 1\nwait\n' 1 '#1 a\na] longer\n  one\n  two\n+ three\nsame 0 differ 1 unanswered 0\n'
 checks 'an output of more lines, whole' 1 '#1 a\na] longer\n- one\n- two\n+ one\n+ two\n+ three\nsame 0 differ 1 unanswered 0\n' --whole
@@ -136,14 +136,14 @@ made "$a"'new 0 a x\nnew 1 a y\nnew 2 a not evaluated\neval 1\neval 2\nwait\n'
 reports 'points that are passed' 0 "TAP version 13\nok 1 - field 1 of a\n${starts}ok 2 - field 2 of a\n${goes_on}1..2\n" --format tap
 reports 'in words, by the name of the format' 0 'same 2 differ 0 unanswered 0\n' --format text
 made "$a"'session b plain sh suite.sh b\nnew 0 a # SKIP\nnew 1 a taps\nnew 2 b hangs\nnew 3 b five\neval 1\neval 2\neval 3\neval 4\nwait\n'
-tap="TAP version 13\nok 1 - field 1 of a\n${starts}not ok 2 - field 2 of a\n$goes_on"'# #2 a\n# a] taps\n# - taps\n# + not ok 7\n# + 1..0 # SKIP all\n# + \n# + Bail out!\nnot ok 3 - field 3 of b\n'"$starts"'# #3 b\n# b] hangs\n# - hangs\n# + ?\nok 4 - field 4 of b\n'"${starts}1..4\n"
+tap="TAP version 13\nok 1 - field 1 of a\n${starts}not ok 2 - field 2 of a\n$goes_on"'# #2 a\n# a] taps\n# - taps\n# + not ok 7\n# + 1..0 # SKIP all\n# + \n# + Bail out!\nnot ok 3 - field 3 of b\n'"$starts"'# #3 b\n# b] hangs\n# - hangs\n# + ? Ended\nok 4 - field 4 of b\n'"${starts}1..4\n"
 reports 'points that are not' 1 "$tap" --format tap --jobs 1
 sent 'points that are not' 'start a\nsend a # SKIP\nsend a taps\nstart b\nsend b hangs\nstart b\nsend b five'
 ended 'points that are not' 3
 
 # Some of the fields: those of a session, and those that are compared. What is left out is evaluated.
 nothing_sent
-reports 'one session' 1 '#3 b\nb] hangs\n- hangs\n+ ?\nsame 1 differ 0 unanswered 1\n' --only b
+reports 'one session' 1 '#3 b\nb] hangs\n- hangs\n+ ? Ended\nsame 1 differ 0 unanswered 1\n' --only b
 sent 'one session' 'start b\nsend b hangs\nstart b\nsend b five'
 nothing_sent
 reports 'one session, of which what differs is left out' 0 "TAP version 13\nok 1 - field 1 of a\n${starts}ok 2 - field 2 of a # SKIP left out\n${goes_on}1..2\n" --format tap --only a --leave-out 2
@@ -151,10 +151,10 @@ sent 'one session, of which what differs is left out' 'start a\nsend a # SKIP\ns
 reports 'a session that is not there' 1 'same 0 differ 0 unanswered 0\n' --only c
 reports 'fields that are left out' 0 'same 2 differ 0 unanswered 0 left out 2\n' --leave-out 2-3
 reports 'all fields left out' 0 'same 0 differ 0 unanswered 0 left out 4\n' --leave-out 1,2,3-4
-reports 'one that is compared' 1 '#3 b\nb] hangs\n- hangs\n+ ?\nsame 1 differ 0 unanswered 1 left out 2\n' --compare 3-4
+reports 'one that is compared' 1 '#3 b\nb] hangs\n- hangs\n+ ? Ended\nsame 1 differ 0 unanswered 1 left out 2\n' --compare 3-4
 reports 'one that is compared, and left out' 0 'same 1 differ 0 unanswered 0 left out 3\n' --compare 3-4 --leave-out 3
 reports 'none that is compared' 0 "TAP version 13\nok 1 - field 1 of a # SKIP left out\n${starts}ok 2 - field 2 of a # SKIP left out\n${goes_on}1..2\n" --format tap --only a --compare 3-4
-reports 'one that is not left out' 1 '#3 b\nb] hangs\n- hangs\n+ ?\nsame 2 differ 0 unanswered 1 left out 1\n' --leave-out 2,2
+reports 'one that is not left out' 1 '#3 b\nb] hangs\n- hangs\n+ ? Ended\nsame 2 differ 0 unanswered 1 left out 1\n' --leave-out 2,2
 
 # A number that no field has: nothing is evaluated, and nothing written. Of a range its first and its last are looked for.
 nothing_sent
@@ -203,13 +203,13 @@ compare 'words that ask for no check' "$(text_of sent)" ''
 made "$a"
 reports 'no case' 0 "$head$tail" --format junit
 made "$a"'new 0 a x\nnew 1 a tags\nnew 2 a odd\nnew 3 a hangs\nnew 4 a differs\neval 1\neval 2\neval 3\neval 4\neval 5\nwait\n'
-reports 'cases' 1 "$head"'<testcase classname="a" name="field 1: x" time="N"></testcase>\n<testcase classname="a" name="field 2: tags" time="N"><failure message="differs">#2 a\na] tags\n- tags\n+ &lt;/failure&gt;&lt;b a=&quot;&amp;&quot;&gt;\n</failure></testcase>\n<testcase classname="a" name="field 3: odd" time="N"><failure message="differs">#3 a\na] odd\n- odd\n+ \357\277\275\303\251\357\277\275\357\277\275\357\277\275\n</failure></testcase>\n<testcase classname="a" name="field 4: hangs" time="N"><error message="unanswered">#4 a\na] hangs\n- hangs\n+ ?\n</error></testcase>\n<testcase classname="a" name="field 5: differs" time="N"><skipped message="left out"></skipped></testcase>\n'"$tail" --format junit --leave-out 5
+reports 'cases' 1 "$head"'<testcase classname="a" name="field 1: x" time="N"></testcase>\n<testcase classname="a" name="field 2: tags" time="N"><failure message="differs">#2 a\na] tags\n- tags\n+ &lt;/failure&gt;&lt;b a=&quot;&amp;&quot;&gt;\n</failure></testcase>\n<testcase classname="a" name="field 3: odd" time="N"><failure message="differs">#3 a\na] odd\n- odd\n+ \357\277\275\303\251\357\277\275\357\277\275\357\277\275\n</failure></testcase>\n<testcase classname="a" name="field 4: hangs" time="N"><error message="unanswered">#4 a\na] hangs\n- hangs\n+ ? Ended\n</error></testcase>\n<testcase classname="a" name="field 5: differs" time="N"><skipped message="left out"></skipped></testcase>\n'"$tail" --format junit --leave-out 5
 "$tmhost" check --format junit --leave-out 5 sheet >report 2>errors
 compare 'cases, read' "$(python3 -I -S cases.py report 2>&1; cat errors)" "$(cat <<'END_OF_CASES'
 ('a', 'field 1: x', [])
 ('a', 'field 2: tags', [('failure', 'differs', '#2 a\na] tags\n- tags\n+ </failure><b a="&">\n')])
 ('a', 'field 3: odd', [('failure', 'differs', '#3 a\na] odd\n- odd\n+ \ufffd\xe9\ufffd\ufffd\ufffd\n')])
-('a', 'field 4: hangs', [('error', 'unanswered', '#4 a\na] hangs\n- hangs\n+ ?\n')])
+('a', 'field 4: hangs', [('error', 'unanswered', '#4 a\na] hangs\n- hangs\n+ ? Ended\n')])
 ('a', 'field 5: differs', [('skipped', 'left out', None)])
 END_OF_CASES
 )"
@@ -309,7 +309,7 @@ checks 'the same as TAP' 1 \
     "TAP version 13\nnot ok 1 - field 1 of e\n$starts# #1 e\n# > fails\n# - error fails\n# + oops\nnot ok 2 - field 2 of e\n$goes_on# #2 e\n# > mended\n# - mended\n# + fine\n1..2\n" --format tap
 checks 'the same, whole' 1 '#1 e\n> fails\n- error fails\n+ oops\n#2 e\n> mended\n- mended\n+ fine\nsame 0 differ 2 unanswered 0 errors 1\n' --whole
 checked 'an error that no field shows' "$e"'new 0 e fails\neval 1\nwait\n' 0 'same 0 differ 0 unanswered 0 left out 1 errors 1\n' --leave-out 1
-checked 'an error of an unanswered field' "$e"'new 0 e ends\nnew 1 e bad\neval 1\neval 2\nwait\n' 1 '#1 e\n> ends\n- ends\n+ ?\nsame 1 differ 0 unanswered 1 errors 1\n'
+checked 'an error of an unanswered field' "$e"'new 0 e ends\nnew 1 e bad\neval 1\neval 2\nwait\n' 1 '#1 e\n> ends\n- ends\n+ ? Ended\nsame 1 differ 0 unanswered 1 errors 1\n'
 objects 'objects of errors' 1 --leave-out 2 <<'END_OF_JSON'
 {"format":1,"program":"tmhost","protocol":2,"type":"hello","version":"0.1.0"}
 {"id":1,"input":"ends","reason":"Ended","session":"e","shows":{"output":{"items":[{"items":["ends"],"kind":"channel","tag":"output"}],"kind":"channel","tag":"output"},"prompt":"> ","shown":"ends"},"took":{"millis":N,"started":true},"type":"checked","verdict":"unanswered"}
@@ -377,7 +377,7 @@ checks 'the same, as JUnit' 1 "$head"'<testcase classname="d" name="field 1: png
 checked 'an SVG that differs' "$d"'new 0 d svg\neval 1\nwait\n' 1 '#1 d\n> svg\n  a line\n- {image/svg+xml: 6 bytes, sum d4dc5666}\n+ {image/svg+xml: 12 bytes, sum 04cc5fa4}\nsame 0 differ 1 unanswered 0\n'
 checked 'a text that differs beside a picture that does not' "$d"'new 0 d text\neval 1\nwait\n' 1 '#1 d\n> text\n- one\n+ two\n  {image/png;base64: 12 bytes, sum 929e08d5}\nsame 0 differ 1 unanswered 0\n'
 checked 'a long picture' "$d"'new 0 d long\neval 1\nwait\n' 1 '#1 d\n> long\n- {image/jpeg;base64: 1000012 bytes, sum 3640e0d1}\n+ {image/jpeg;base64: 1000012 bytes, sum e65d7178}\nsame 0 differ 1 unanswered 0\n'
-checked 'a picture to which no answer came' "$d"'new 0 d ends\neval 1\nwait\n' 1 '#1 d\n> ends\n- {image/png;base64: 12 bytes, sum 929e08d5}\n+ ?\nsame 0 differ 0 unanswered 1\n'
+checked 'a picture to which no answer came' "$d"'new 0 d ends\neval 1\nwait\n' 1 '#1 d\n> ends\n- {image/png;base64: 12 bytes, sum 929e08d5}\n+ ? Ended\nsame 0 differ 0 unanswered 1\n'
 checked 'a picture that came to a field without an answer' "$d"'new 0 d png\n' 0 '#1 d\n> png\n+ {image/png;base64: 12 bytes, sum 3765c2fa}\nsame 0 differ 0 unanswered 0 new 1\n' --all
 checked 'what is no picture' "$d"'new 0 d channel\nnew 1 d holds\nnew 2 d none\nnew 3 d latex\neval 1\neval 2\neval 3\neval 4\nwait\n' 1 \
     '#1 d\n> channel\n- {image/png;base64#iVBORw0KGgo=}\n+ {image/png;base64#iVBORw0KGgoA}\n#2 d\n> holds\n- {image/png;base64:iVBORw0KGgo=}\n+ {image/png;base64:iVBORw0KGgoA}\n#3 d\n> none\n- {image/png;base64: 12 bytes, sum 929e08d5}\n+ {image/png;base64:}\n#4 d\n> latex\n- {latex:iVBORw0KGgo=}\n+ {latex:iVBORw0KGgoA}\nsame 0 differ 4 unanswered 0\n'

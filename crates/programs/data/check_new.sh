@@ -49,12 +49,12 @@ checked 'new ones that are errors' "$e"'new 0 e fails\nnew 1 e bad\nnew 2 e x\ne
 
 # To a field that shows no answer none may come either, as where its interpreter hangs up. The next one starts another.
 made "$a"'new 0 a x\nnew 1 a hangs\nnew 2 a y\nnew 3 a z\neval 1\nwait\n'
-told='#2 a\n> hangs\n- ?\n+ ?\n#3 a\n> y\n+ y\n#4 a\n> z\n+ z\nsame 1 differ 0 unanswered 1 new 2\n'
+told='#2 a\n> hangs\n- ?\n+ ? Ended\n#3 a\n> y\n+ y\n#4 a\n> z\n+ z\nsame 1 differ 0 unanswered 1 new 2\n'
 checks 'one that shows no answer, and gets none' 1 "$told" --all
 sent 'one that shows no answer, and gets none' 'start a\nsend a x\nsend a hangs\nstart a\nsend a y\nsend a z'
 checks 'one that shows no answer, and gets none, whole' 1 "$told" --all --whole
 checks 'one that shows no answer, and gets none, left out' 0 '#3 a\n> y\n+ y\n#4 a\n> z\n+ z\nsame 1 differ 0 unanswered 0 left out 1 new 2\n' --all --leave-out 2
-checks 'one that shows no answer, and gets none, as TAP' 1 "TAP version 13\nok 1 - field 1 of a\n${starts}not ok 2 - field 2 of a\n$goes_on# #2 a\n# > hangs\n# - ?\n# + ?\nok 3 - field 3 of a # SKIP new\n$starts# #3 a\n# > y\n# + y\nok 4 - field 4 of a # SKIP new\n$goes_on# #4 a\n# > z\n# + z\n1..4\n" \
+checks 'one that shows no answer, and gets none, as TAP' 1 "TAP version 13\nok 1 - field 1 of a\n${starts}not ok 2 - field 2 of a\n$goes_on# #2 a\n# > hangs\n# - ?\n# + ? Ended\nok 3 - field 3 of a # SKIP new\n$starts# #3 a\n# > y\n# + y\nok 4 - field 4 of a # SKIP new\n$goes_on# #4 a\n# > z\n# + z\n1..4\n" \
     --all --format tap
 objects 'one that shows no answer, and gets none, as an object' 1 --all <<'END_OF_JSON'
 {"format":1,"program":"tmhost","protocol":2,"type":"hello","version":"0.1.0"}
@@ -65,7 +65,7 @@ objects 'one that shows no answer, and gets none, as an object' 1 --all <<'END_O
 {"differ":0,"errors":0,"left_out":0,"new":2,"same":1,"type":"compared","unanswered":1}
 {"type":"end"}
 END_OF_JSON
-checked 'one whose line was lost, again' "$a"'session b plain true\nnew 0 a x\nnew 1 b y\neval 1\neval 2\nwait\n' 1 '#2 b\n> y\n- ?\n+ ?\nsame 1 differ 0 unanswered 1\n' --all
+checked 'one whose line was lost, again' "$a"'session b plain true\nnew 0 a x\nnew 1 b y\neval 1\neval 2\nwait\n' 1 '#2 b\n> y\n- ? Ended\n+ ? Ended\nsame 1 differ 0 unanswered 1\n' --all
 
 # All fields of a session, and those of them that are compared.
 made "$a"'session b plain sh suite.sh b\nnew 0 a x\nnew 1 b y\nnew 2 a z\nnew 3 b w\neval 1\nwait\n'
@@ -80,12 +80,12 @@ checks 'all, and a number that no field has' 1 'fault 37 NoField 5\n' --all --le
 # Side by side it isn't known what each took; one after another it is.
 made "$a"'session b plain sh suite.sh b\nnew 0 a x\nnew 1 b y\nnew 2 a hangs\nnew 3 a z\neval 1\neval 2\nwait\n'
 for words in '' '--jobs 1' '--jobs 2' '--timeout 60'; do
-    checks "new ones of two sessions, $words" 1 '#3 a\n> hangs\n- ?\n+ ?\n#4 a\n> z\n+ z\nsame 2 differ 0 unanswered 1 new 1\n' --all $words
+    checks "new ones of two sessions, $words" 1 '#3 a\n> hangs\n- ?\n+ ? Ended\n#4 a\n> z\n+ z\nsame 2 differ 0 unanswered 1 new 1\n' --all $words
 done
 side_by_side() {
-    checks "points of sessions side by side, $1" 1 'TAP version 13\nok 1 - field 1 of a\nok 2 - field 2 of b\nnot ok 3 - field 3 of a\n# #3 a\n# > hangs\n# - ?\n# + ?\nok 4 - field 4 of a # SKIP new\n# #4 a\n# > z\n# + z\n1..4\n' \
+    checks "points of sessions side by side, $1" 1 'TAP version 13\nok 1 - field 1 of a\nok 2 - field 2 of b\nnot ok 3 - field 3 of a\n# #3 a\n# > hangs\n# - ?\n# + ? Ended\nok 4 - field 4 of a # SKIP new\n# #4 a\n# > z\n# + z\n1..4\n' \
         --all --format tap $1
-    checks "cases of sessions side by side, $1" 1 "$head"'<testcase classname="a" name="field 1: x"></testcase>\n<testcase classname="b" name="field 2: y"></testcase>\n<testcase classname="a" name="field 3: hangs"><error message="unanswered">#3 a\n&gt; hangs\n- ?\n+ ?\n</error></testcase>\n<testcase classname="a" name="field 4: z"><skipped message="new">#4 a\n&gt; z\n+ z\n</skipped></testcase>\n'"$tail" \
+    checks "cases of sessions side by side, $1" 1 "$head"'<testcase classname="a" name="field 1: x"></testcase>\n<testcase classname="b" name="field 2: y"></testcase>\n<testcase classname="a" name="field 3: hangs"><error message="unanswered">#3 a\n&gt; hangs\n- ?\n+ ? Ended\n</error></testcase>\n<testcase classname="a" name="field 4: z"><skipped message="new">#4 a\n&gt; z\n+ z\n</skipped></testcase>\n'"$tail" \
         --all --format junit $1
     objects "objects of sessions side by side, $1" 1 --all $1 <<'END_OF_JSON'
 {"format":1,"program":"tmhost","protocol":2,"type":"hello","version":"0.1.0"}
@@ -99,7 +99,7 @@ END_OF_JSON
 }
 for words in '' '--jobs 2' '--jobs 64 --timeout 60'; do side_by_side "$words"; done
 for words in '--jobs 1' '--timeout 60'; do
-    checks "points of sessions one after another, $words" 1 "TAP version 13\nok 1 - field 1 of a\n${starts}ok 2 - field 2 of b\n${starts}not ok 3 - field 3 of a\n$goes_on# #3 a\n# > hangs\n# - ?\n# + ?\nok 4 - field 4 of a # SKIP new\n$starts# #4 a\n# > z\n# + z\n1..4\n" \
+    checks "points of sessions one after another, $words" 1 "TAP version 13\nok 1 - field 1 of a\n${starts}ok 2 - field 2 of b\n${starts}not ok 3 - field 3 of a\n$goes_on# #3 a\n# > hangs\n# - ?\n# + ? Ended\nok 4 - field 4 of a # SKIP new\n$starts# #4 a\n# > z\n# + z\n1..4\n" \
         --all --format tap $words
     objects "objects of sessions one after another, $words" 1 --all $words <<'END_OF_JSON'
 {"format":1,"program":"tmhost","protocol":2,"type":"hello","version":"0.1.0"}
@@ -146,7 +146,7 @@ words 'new ones of one worksheet twice' 0 "$told_one${told_one}total of 2 worksh
 words 'new ones of three worksheets, of which one is not there' 1 \
     "$told_one${told_two}worksheet nowhere\ntotal of 3 worksheets: same 2 differ 0 unanswered 0 errors 1 new 2 faults 1\nfault 32 Disk\n" check --all one two nowhere
 words 'all of two worksheets, of which one differs' 1 \
-    "${told_one}worksheet bad\n#1 a\n> hangs\n- ?\n+ ?\n#2 a\na] differs\n- differs\n+ another\nsame 0 differ 1 unanswered 1\ntotal of 2 worksheets: same 1 differ 1 unanswered 1 new 1\n" check --all one bad
+    "${told_one}worksheet bad\n#1 a\n> hangs\n- ?\n+ ? Ended\n#2 a\na] differs\n- differs\n+ another\nsame 0 differ 1 unanswered 1\ntotal of 2 worksheets: same 1 differ 1 unanswered 1 new 1\n" check --all one bad
 words 'new ones of two worksheets that are not asked for' 0 \
     'worksheet one\nsame 1 differ 0 unanswered 0\nworksheet two\nsame 1 differ 0 unanswered 0\ntotal of 2 worksheets: same 2 differ 0 unanswered 0\n' check one two
 words 'new ones of several, and a format' 2 "error: several PATHs go with no FORMAT but text$help" check --all --json one two

@@ -10,7 +10,7 @@ reports 'an answer after its time is none' 1 '#2 l\n> loop\n- loop\n+ ?\nsame 2 
 sent 'an answer after its time is none' 'start\nsend x\nsend loop\nsend y'
 made "$l"'session a plain sh suite.sh a\nnew 0 l deaf\nnew 1 l y\nnew 2 a differs\neval 1\neval 2\neval 3\nwait\n'
 beside stalls --timeout 2 --json --only l
-reports 'one that hears no interrupt' 1 '#1 l\n> deaf\n- deaf\n+ ?\n#3 a\na] differs\n- differs\n+ another\nsame 1 differ 1 unanswered 1\n' --timeout 2
+reports 'one that hears no interrupt' 1 '#1 l\n> deaf\n- deaf\n+ ? Stalled\n#3 a\na] differs\n- differs\n+ another\nsame 1 differ 1 unanswered 1\n' --timeout 2
 sent 'one that hears no interrupt' 'start\nsend deaf\nstart\nsend y\nstart a\nsend a differs'
 ended 'one that hears no interrupt' 3
 wait

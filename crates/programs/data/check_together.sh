@@ -8,7 +8,7 @@ for flags in '' '--format tap' '--format junit' '--json' '--only b' '--leave-out
     for jobs in '' '--jobs 4'; do compare "side by side as one after another, $jobs $flags" "$(answer check $jobs $flags sheet </dev/null | untimed)" "$want"; done
 done
 nothing_sent
-reports 'side by side' 1 '#2 b\nb] differs\n- differs\n+ another\n#3 a\na] hangs\n- hangs\n+ ?\n#4 a\na] tags\n- tags\n+ </failure><b a="&">\n#5 b\nb] tagged\n- tagged\n+ {latex:$x$}\nsame 1 differ 3 unanswered 1\n' --jobs 2
+reports 'side by side' 1 '#2 b\nb] differs\n- differs\n+ another\n#3 a\na] hangs\n- hangs\n+ ? Ended\n#4 a\na] tags\n- tags\n+ </failure><b a="&">\n#5 b\nb] tagged\n- tagged\n+ {latex:$x$}\nsame 1 differ 3 unanswered 1\n' --jobs 2
 compare 'side by side, no field that shows none' "$(grep -c 'not evaluated' sent)" 0
 ended 'side by side' 3
 made "$a"'session b plain ./nothing\nnew 0 a x\nnew 1 a differs\neval 1\neval 2\nwait\n'
@@ -40,7 +40,7 @@ beside with_one_job --jobs 1 --timeout 1
 made "$l"'session k plain env --default-signal=INT sh loops.sh\nnew 0 l x\nnew 1 l loop\nnew 2 k late\nnew 3 l y\nnew 4 k differs\neval 1\neval 2\neval 3\neval 4\neval 5\nwait\n'
 reports 'side by side, an answer after its time is none' 1 '#2 l\n> loop\n- loop\n+ ?\n#3 k\n> late\n- late\n+ ?\n#5 k\n> differs\n- differs\n+ another\nsame 2 differ 1 unanswered 2\n' --jobs 2 --timeout 1
 wait
-told='#1 b\n> x\n- x\n+ ?\n#3 a\n> y\n- y\n+ ?\nsame 2 differ 0 unanswered 2\n'
+told='#1 b\n> x\n- x\n+ ? Ended\n#3 a\n> y\n- y\n+ ? Ended\nsame 2 differ 0 unanswered 2\n'
 came 'two that wait for each other, one after another, ' after_another "$(ending "$told" 1)"
 came 'two that wait for each other, one after another, --jobs 1' with_one_job "$(ending "$told" 1)"
 
@@ -73,7 +73,7 @@ made_at three "$a"'new 0 a heads\neval 1\nwait\n'
 made_at deadly "$a"'new 0 a x\nnew 1 a kills\neval 1\neval 2\nwait\n'
 made_at "a${line_feed}worksheet b" "$a"'new 0 a x\neval 1\nwait\n'
 before=$(sums one two bad)
-differ='worksheet bad\n#2 a\na] differs\n- differs\n+ another\n#3 a\na] hangs\n- hangs\n+ ?\nsame 1 differ 1 unanswered 1\n'
+differ='worksheet bad\n#2 a\na] differs\n- differs\n+ another\n#3 a\na] hangs\n- hangs\n+ ? Ended\nsame 1 differ 1 unanswered 1\n'
 words 'two worksheets' 0 'worksheet one\nsame 2 differ 0 unanswered 0\nworksheet two\nsame 1 differ 0 unanswered 0\ntotal of 2 worksheets: same 3 differ 0 unanswered 0\n' check one two
 sent 'two worksheets' 'start a\nsend a x\nsend a y\nstart a\nsend a z'
 ended 'two worksheets' 2

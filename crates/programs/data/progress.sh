@@ -16,7 +16,7 @@ chmod 755 gone.sh
 sed -i '1i #!/bin/sh' gone.sh
 made "$a"'session b plain ./gone.sh b\nnew 0 a one\nnew 1 a differs\nnew 2 a hangs\nnew 3 b four\nnew 4 a five\nnew 5 a not evaluated\neval 1\neval 2\neval 3\neval 4\neval 5\nwait\n'
 rm -f gone.sh
-told='#2 a\na] differs\n- differs\n+ another\n#3 a\na] hangs\n- hangs\n+ ?\n#4 b\nb] four\n- four\n+ ?\nsame 2 differ 1 unanswered 2\n'
+told='#2 a\na] differs\n- differs\n+ another\n#3 a\na] hangs\n- hangs\n+ ? Ended\n#4 b\nb] four\n- four\n+ ? StartRefused\nsame 2 differ 1 unanswered 2\n'
 for jobs in '' '--jobs 1'; do
     sends "a suite on a terminal, $jobs" 1 \
         '\r1 of 5\033[K\r\033[K\r2 of 5, 1 differs\033[K\r\033[K\r3 of 5, 1 differs, 1 unanswered\033[K\r\033[K\r4 of 5, 1 differs, 2 unanswered\033[K\r5 of 5, 1 differs, 2 unanswered\033[K\r\033[K' \

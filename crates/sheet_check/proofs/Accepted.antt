@@ -152,7 +152,7 @@ module _ {C : Type 0} (o : Way C) (chosen : Chosen) (field : Field) (s : At C) (
 
 pub shown_took : {C : Type 0} (o : Way C) (chosen : Chosen) (field : Field) (s : At C) (h : HostView) (c : C) (a b : Option (List ℕ)) (ops more : List Op) (disk : DiskView) (store : StoreView)
     (came : Option Answer) (took : Took) (t : World) (found : Finding) (j : Judgement) → Evaluated o field s came took (at t c h.store.disk) → IsHost h t
-    → Finds chosen field came found → j ≡ found.judgement
+    → Finds chosen field came (reason_shown_in t field.id) found → j ≡ found.judgement
     → Stores ops (more ++ answer_ops field.id found.answer) disk store → Appends a b found.text.items
     → ShownTook (to_accept o chosen) (question 0 field) s (records.left h c a b) (storing ops more disk store) j
 shown_took o chosen field s h c a b ops more disk store came took t found j evaluated stands f is stores wrote =

@@ -13,7 +13,7 @@ ghost use Rattle.sheet_check.specs.Kept.{Stores};
 ghost use Rattle.check_report.specs.Chosen.{is_chosen};
 ghost use Rattle.check_report.specs.declared.report.Format.TheVariants as formats;
 ghost use Rattle.sheet_check.specs.Accept.{accepted_answer, accepting_by, answer_ops};
-ghost use Rattle.sheet_check.specs.Evaluated.{came_if, shown_in};
+ghost use Rattle.sheet_check.specs.Evaluated.{came_if, reason_shown_in, shown_in};
 ghost use Rattle.sheet_check.specs.Progress.{LeavesLine, MakesRoom};
 ghost use Rattle.sheet_check.specs.inside.Accepting.{FieldBroke, Finds, NotPut, NotTaken, ShownTook, fault_of_acceptance, storing};
 ghost use Rattle.sheet_check.specs.inside.Checking.{question};
@@ -25,7 +25,7 @@ use crate::places::FieldPlace;
 use crate::progress::Progress;
 use crate::telling::make_room;
 use arrivals::Sources;
-use block_tree::OutOfMemory;
+use block_tree::{OutOfMemory, Reason};
 use check_report::{
     Chosen, Format, Judgement, Verdict, acceptance_in_memory, brings_error, write_and_flush,
 };
@@ -80,15 +80,21 @@ fn answer_to_accept(came: &Option<Answer>, verdict: Verdict) -> Result<Option<An
     }
 }
 
-/// What a field came to by the answer that came. None where there is no memory for it.
-fn find(alloc: Global, chosen: &Chosen, field: &Field, came: &Option<Answer>) -> Option<Finding>
-    ensures { IfSome result (Finds chosen.now field.now came.now) }
+/// What a field came to by the answer that came, or the reason why none did. None where there is no memory for it.
+fn find(
+    alloc: Global,
+    chosen: &Chosen,
+    field: &Field,
+    came: &Option<Answer>,
+    lost: Option<Reason>,
+) -> Option<Finding>
+    ensures { IfSome result (Finds chosen.now field.now came.now lost) }
 {
     let verdict = chosen.judge(field, came);
     let Ok(answer) = answer_to_accept(came, verdict) else {
         return None;
     };
-    match acceptance_in_memory(alloc, field, came, verdict) {
+    match acceptance_in_memory(alloc, field, came, lost, verdict) {
         Some(text) => Some(Finding {
             judgement: Judgement {
                 verdict,
@@ -101,7 +107,7 @@ fn find(alloc: Global, chosen: &Chosen, field: &Field, came: &Option<Answer>) ->
     }
 }
 
-/// What a field came to by the answer that it shows on the copy now, where its line was asked. None where there is no memory for it.
+/// What a field came to by what it shows on the copy now, of which an answer counts where its line was asked. None where there is no memory for it.
 fn find_on_copy<D: Disk>(
     alloc: Global,
     chosen: &Chosen,
@@ -110,14 +116,12 @@ fn find_on_copy<D: Disk>(
     asked: bool,
 ) -> Option<Finding>
     ensures { (w : World) → IsHost host.now w → IfSome result (Finds chosen.now field.now
-        (came_if asked (shown_in w field.now.id))) }
+        (came_if asked (shown_in w field.now.id)) (reason_shown_in w field.now.id)) }
 {
-    if !asked {
-        return find(alloc, chosen, field, &None);
-    }
     match host.sheet().field(field.id) {
-        None => find(alloc, chosen, field, &None),
-        Some(now) => find(alloc, chosen, field, &now.answer),
+        None => find(alloc, chosen, field, &None, None),
+        Some(now) if asked => find(alloc, chosen, field, &now.answer, now.lost),
+        Some(now) => find(alloc, chosen, field, &None, now.lost),
     }
 }
 

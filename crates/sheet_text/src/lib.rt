@@ -23,5 +23,7 @@ pub use numbers::read_number;
 pub use parts::split_space;
 pub use replies::{reason_name, reply_text};
 pub use script::{LineFault, ScriptLine, read_line};
-pub use sheet::{field_text, sheet_text, write_input, write_number, write_output, write_text};
+pub use sheet::{
+    field_text, sheet_text, write_input, write_no_answer, write_number, write_output, write_text,
+};
 pub use spelled::spelled_text;

@@ -55,7 +55,7 @@ pub fn write_input<W: Write>(field: &Field, out: &mut W) -> Result<(), WriteFaul
 
 /// Writes `?`, and the reason why there is no answer, if there is one.
 #[tactic(auto, using(crate::proofs::Appending::steps))]
-fn write_no_answer<W: Write>(lost: Option<Reason>, out: &mut W) -> Result<(), WriteFault>
+pub fn write_no_answer<W: Write>(lost: Option<Reason>, out: &mut W) -> Result<(), WriteFault>
     ensures { OnOk result
         (Appends (W.contents out.old) (W.contents out.new) (printed.no_answer_line lost)) }
 {

@@ -2,6 +2,7 @@
 use Rattle.std.specs.Prelude.{◌≡◌, ℕ, List, [], ◌∷◌, ◌++◌, Option, Result, IfOk, IfErr, Some}
 use Rattle.std.specs.Io.KnownBytes.{Appends}
 use Rattle.disk_model.specs.Disk.{DiskView}
+use Rattle.block_tree.specs.declared.reason.Reason.{Reason}
 use Rattle.worksheet.specs.declared.op.Op.{Op}
 use Rattle.worksheet.specs.declared.field.Answer.{Answer}
 use Rattle.worksheet.specs.declared.field.Field.{Field}
@@ -32,12 +33,12 @@ use Rattle.sheet_check.specs.Accept.{AcceptLeft, accepted, accepted_answer, acce
 use Rattle.sheet_check.specs.declared.accept_shown.Finding.{Finding}
 use Rattle.sheet_check.specs.inside.Checking.{FieldFailed, FieldsEnded, FieldsFailed, FieldsWrote, Question, ShownWrote}
 
--- what a field came to by the answer that it shows and the one that came
-pub record Finds (chosen : Chosen) (field : Field) (came : Option Answer) (found : Finding) : Type 0 where
+-- what a field came to by the answer that it shows and the one that came, or the reason why none did
+pub record Finds (chosen : Chosen) (field : Field) (came : Option Answer) (lost : Option Reason) (found : Finding) : Type 0 where
   pub judged : Judged chosen field came found.judgement.verdict
   pub error : found.judgement.error ≡ brings_error came
   pub taken : found.answer ≡ accepted_answer came found.judgement.verdict
-  pub reported : found.text.items ≡ acceptance_text field came found.judgement.verdict
+  pub reported : found.text.items ≡ acceptance_text field came lost found.judgement.verdict
 
 -- the fault of a check by why an answer wasn't accepted
 abbrev pub fault_of_acceptance : PutFault → RunFault
