@@ -18,10 +18,10 @@ use Rattle.check_report.specs.declared.report.Format.TheVariants as format
 use Rattle.check_report.specs.declared.verdict.Counts.{Counts}
 use Rattle.check_report.specs.Reports.{Case, report_front}
 use Rattle.sheet_check.specs.Accept as ends
-use Rattle.sheet_check.specs.Accept.{AcceptAnswer, AcceptLeft, FoundOn, SheetAccepts, accepted, accepted_answer, accepted_of, answer_ops, filing, opened, to_accept, unopened}
+use Rattle.sheet_check.specs.Accept.{AcceptAnswer, AcceptLeft, FiledAll, FiledBut, FoundOn, SheetAccepts, acceptance, accepted, accepted_answer, accepted_of, answer_ops, filing, opened, to_accept, unopened}
 use Rattle.sheet_check.specs.Check.{passage}
 use Rattle.sheet_check.specs.Evaluated.{Way}
-use Rattle.sheet_check.specs.Kept.{HoldsAll, HoldsBut, IsAmong}
+use Rattle.sheet_check.specs.Kept.{IsAmong}
 use Rattle.sheet_check.specs.Named.{ByNames, all_named, answer_as, missing_named, no_field}
 use Rattle.sheet_check.specs.declared.named.CheckFault.{CheckFault}
 use Rattle.sheet_check.specs.declared.named.CheckFault.TheVariants as checks
@@ -68,16 +68,19 @@ but_first ops more one i (inr following) = record {
   image = subst (λ (os : List Op). IsSheetImage (sheet_of os) i) (append_assoc ops more (one ∷ [])) following;
 }
 
-module _ (disk back : DiskView) (model : IsTrue disk.keeps_model) (sheet : Contents) (ops : List Op) (now : DiskView) (found : FoundOn disk sheet ops now) where
+module _ (held : Option (List ℕ) → DiskView → Type 0) (text : Option (List ℕ)) (disk back : DiskView) (model : IsTrue disk.keeps_model) (sheet : Contents) (ops : List Op) (now : DiskView) (found : FoundOn disk sheet ops now) where
+  abbrev Left : List Case → Type 0
+  Left cases = LeftByAcceptance (acceptance held disk back) text cases
+
   found-on : IsSheetImage (sheet_of ops) (bytes_on disk)
   found-on = subst (λ (c : Contents). IsSheetImage c (bytes_on disk)) found.is (found.found model)
 
   -- nothing was put in
-  none-left : back ≡ now → LeftByAcceptance disk back []
+  none-left : back ≡ now → Left []
   none-left is =
       let here : (i : Image) → IsSheetImage sheet i → HasFirst ops [] [] i = λ i image. all_first ops [] i
       (subst (λ (c : Contents). IsSheetImage c i) (found.is ∙ ap sheet_of (sym (append-nil ops))) image) in
-      subst (λ (d : DiskView). LeftByAcceptance disk d []) (sym is)
+      subst (λ (d : DiskView). LeftByAcceptance (acceptance held disk d) text []) (sym is)
       (put_in ops []
       (record {
         keeps_model = model;
@@ -92,37 +95,39 @@ module _ (disk back : DiskView) (model : IsTrue disk.keeps_model) (sheet : Conte
       (found.looks model)
       (record { room = refl; keeps_model = refl; later = le_refl now.faults })
       (inl refl)
-      (λ keeps i image. here i (found.durable model i image)))
+      (λ keeps i image. here i (found.durable model i image))
+      tt)
 
-  all-left : (put : List Op) → AreAnswers put → HoldsAll ops put now back → LeftByAcceptance disk back put
-  all-left put answers holds =
-      put_in ops put
+  all-left : (cases : List Case) → FiledAll (filing held ops now back) text cases → Left cases
+  all-left cases filed =
+      let holds = filed.0 in
+      put_in ops (accepted cases)
       (record {
         keeps_model = model;
         read = refl;
         found = found-on;
-        answers = answers;
+        answers = are_answers cases;
         from = holds.from;
         now = now;
         same = found.same;
-        moments = λ keeps. weakens (IsAmong ops put) (HasFirst ops put []) now.history back.history (among_first ops put) (holds.moments keeps);
+        moments = λ keeps. weakens (IsAmong ops (accepted cases)) (HasFirst ops (accepted cases) []) now.history back.history (among_first ops (accepted cases)) (holds.moments keeps);
       })
       (found.looks model)
       holds.same
       (inl refl)
-      (λ keeps i image. all_first ops put i (holds.holds keeps i image))
+      (λ keeps i image. all_first ops (accepted cases) i (holds.holds keeps i image))
+      filed.1
 
-  all-cases : (cases : List Case) → HoldsAll ops (accepted cases) now back → LeftByAcceptance disk back (accepted cases)
-  all-cases cases holds = all-left (accepted cases) (are_answers cases) holds
-
-  but-left : (put : List Op) (one : Op) → AreAnswers put → PutsAnswer one → HoldsBut ops put one now back → LeftByAcceptance disk back put
-  but-left put one answers is_one holds =
+  but-left : (cases : List Case) (one : Op) → PutsAnswer one → FiledBut (filing held ops now back) text cases one → Left cases
+  but-left cases one is_one filed =
+      let put = accepted cases in
+      let holds = filed.0 in
       put_in ops (put ++ one ∷ [])
       (record {
         keeps_model = model;
         read = refl;
         found = found-on;
-        answers = answers_joined put (one ∷ []) answers (is_one, tt);
+        answers = answers_joined put (one ∷ []) (are_answers cases) (is_one, tt);
         from = holds.from;
         now = now;
         same = found.same;
@@ -132,47 +137,50 @@ module _ (disk back : DiskView) (model : IsTrue disk.keeps_model) (sheet : Conte
       holds.same
       (inr (one, refl))
       (λ keeps i image. but_first ops put one i (holds.holds keeps i image))
+      filed.1
 
-  module _ {C : Type 0} (o : Way C) (chosen : Chosen) (c d : C) (a b : Option (List ℕ)) where
+  module _ {C : Type 0} (o : Way C) (chosen : Chosen) (c d : C) (b : Option (List ℕ)) where
+    abbrev Reported : Result Counts CheckFault → Type 0
+    Reported answer = ReportedAcceptance (acceptance held disk back) text b answer
+
     -- the report of these cases was written, and nothing after it
-    wrote-front : (cases : List Case) (why : CheckFault) → Appends a b (report_front format.Accepting cases) → LeftByAcceptance disk back (accepted cases)
-        → ReportedAcceptance a b disk back (Err why)
+    wrote-front : (cases : List Case) (why : CheckFault) → Appends text b (report_front format.Accepting cases) → Left cases → Reported (Err why)
     wrote-front cases why wrote left = record {
       cases = cases;
-      wrote = λ written. subst (Appends a b) (sym (append-nil (report_front format.Accepting cases))) wrote;
+      wrote = λ written. subst (Appends text b) (sym (append-nil (report_front format.Accepting cases))) wrote;
       left = left;
     }
 
-    broke-off : (why : RunFault) → AcceptLeft (to_accept o chosen) sheet (passage c d a b) (filing ops now back) why → ReportedAcceptance a b disk back (Err (checks.Run why))
-    broke-off why (ends.halted cases led wrote holds) = wrote-front cases (checks.Run why) wrote (all-cases cases holds)
-    broke-off why (ends.unremembered cases is led wrote holds) = wrote-front cases (checks.Run why) wrote (all-cases cases holds)
-    broke-off why (ends.full cases last one is led taken wrote holds place) = wrote-front cases (checks.Run why) wrote (all-cases cases holds)
-    broke-off why (ends.broken cases last one is led taken wrote holds) = wrote-front cases (checks.Run why) wrote (but-left (accepted cases) one (are_answers cases) (one_answer last one taken) holds)
+    broke-off : (why : RunFault) → AcceptLeft (to_accept o chosen) sheet (passage c d text b) (filing held ops now back) why → Reported (Err (checks.Run why))
+    broke-off why (ends.halted cases led wrote holds) = wrote-front cases (checks.Run why) wrote (all-left cases holds)
+    broke-off why (ends.unremembered cases is led wrote holds) = wrote-front cases (checks.Run why) wrote (all-left cases holds)
+    broke-off why (ends.full cases last one is led taken wrote holds place) = wrote-front cases (checks.Run why) wrote (all-left cases holds)
+    broke-off why (ends.broken cases last one is led taken wrote holds) = wrote-front cases (checks.Run why) wrote (but-left cases one (one_answer last one taken) holds)
     broke-off why (ends.unwritten cases is led holds) = record {
       cases = cases;
       wrote = λ written. absurd (written (ap (λ (x : RunFault). Err (checks.Run x)) is));
-      left = all-cases cases holds;
+      left = all-left cases holds;
     }
 
-    pub came : (nothing : Type 0) → (nothing → Appends a b []) → (counted : Result Counts RunFault)
-        → SheetAccepts (to_accept o chosen) sheet (passage c d a b) nothing (filing ops now back) counted → ReportedAcceptance a b disk back (answer_as counted)
+    pub came : (nothing : Type 0) → (nothing → Appends text b []) → (counted : Result Counts RunFault)
+        → SheetAccepts (to_accept o chosen) sheet (passage c d text b) nothing (filing held ops now back) counted → Reported (answer_as counted)
     came nothing unwritten (Ok counts) (checked, holds) = record {
       cases = checked.cases;
       wrote = λ written. checked.wrote;
-      left = all-cases checked.cases holds;
+      left = all-left checked.cases holds;
     }
-    came nothing unwritten (Err why) (inl (is, none, holds)) = wrote-front [] (checks.Run why) (unwritten none) (all-left [] tt holds)
+    came nothing unwritten (Err why) (inl (is, none, holds)) = wrote-front [] (checks.Run why) (unwritten none) (all-left [] holds)
     came nothing unwritten (Err why) (inr left) = broke-off why left
 
-    pub named : (nothing : Type 0) → (nothing → Appends a b []) → (missing : Option ℕ) (answer : Result Counts CheckFault)
-        → ByNames missing (nothing × (back ≡ now)) (SheetAccepts (to_accept o chosen) sheet (passage c d a b) nothing (filing ops now back)) answer → ReportedAcceptance a b disk back answer
+    pub named : (nothing : Type 0) → (nothing → Appends text b []) → (missing : Option ℕ) (answer : Result Counts CheckFault)
+        → ByNames missing (nothing × (back ≡ now)) (SheetAccepts (to_accept o chosen) sheet (passage c d text b) nothing (filing held ops now back)) answer → Reported answer
     named nothing unwritten missing answer (no_field id there is (none, same)) =
-        subst (ReportedAcceptance a b disk back) (sym is) (wrote-front [] (checks.NoField id) (unwritten none) (none-left same))
-    named nothing unwritten missing answer (all_named counted there is came_so) = subst (ReportedAcceptance a b disk back) (sym is) (came nothing unwritten counted came_so)
+        subst Reported (sym is) (wrote-front [] (checks.NoField id) (unwritten none) (none-left same))
+    named nothing unwritten missing answer (all_named counted there is came_so) = subst Reported (sym is) (came nothing unwritten counted came_so)
 
-pub acceptance_filed : {C : Type 0} (o : Way C) (chosen : Chosen) (disk back : DiskView) (c d : C) (a b : Option (List ℕ)) (nothing : Type 0) → (nothing → Appends a b []) → (answer : Result Counts CheckFault)
-    → IsTrue disk.keeps_model → AcceptAnswer (to_accept o chosen) disk back (passage c d a b) nothing answer → ReportedAcceptance a b disk back answer
-acceptance_filed o chosen disk back c d a b nothing unwritten answer model (unopened why is none reason reads) =
-    subst (ReportedAcceptance a b disk back) (sym is) (record { cases = []; wrote = λ written. unwritten none; left = only_read reads })
-acceptance_filed o chosen disk back c d a b nothing unwritten answer model (opened sheet ops now found by_names) =
-    named disk back model sheet ops now found o chosen c d a b nothing unwritten (missing_named chosen sheet.fields) answer by_names
+pub acceptance_filed : {C : Type 0} (o : Way C) (chosen : Chosen) (held : Option (List ℕ) → DiskView → Type 0) (disk back : DiskView) (c d : C) (a b : Option (List ℕ)) (nothing : Type 0) → (nothing → Appends a b []) → (answer : Result Counts CheckFault)
+    → IsTrue disk.keeps_model → AcceptAnswer (to_accept o chosen) (acceptance held disk back) (passage c d a b) nothing answer → ReportedAcceptance (acceptance held disk back) a b answer
+acceptance_filed o chosen held disk back c d a b nothing unwritten answer model (unopened why is none reason reads) =
+    subst (ReportedAcceptance (acceptance held disk back) a b) (sym is) (record { cases = []; wrote = λ written. unwritten none; left = only_read reads })
+acceptance_filed o chosen held disk back c d a b nothing unwritten answer model (opened sheet ops now found by_names) =
+    named held a disk back model sheet ops now found o chosen c d b nothing unwritten (missing_named chosen sheet.fields) answer by_names

@@ -1,45 +1,89 @@
 -- What an acceptance leaves, after whatever uses of the program there were.
-use Rattle.std.proofs.Common.{List, [], ◌∷◌, ◌++◌, Option, ℕ, IsTrue, subst, sym}
+use Rattle.std.proofs.Common.{◌∙◌, List, [], ◌∷◌, ◌++◌, Option, ℕ, IsTrue, ap, append-nil, append_assoc, refl, subst, sym}
 use Rattle.std.specs.Prelude.{Result}
 use Rattle.disk_model.specs.Disk.{DiskView, Image, IsImage, bytes_on}
+use Rattle.disk_model.specs.inside.Moments.{started, weakens}
 use Rattle.journal.specs.declared.journal.OpenFault.{OpenFault}
 use Rattle.worksheet.specs.declared.op.Op.{Op}
 use Rattle.session_engine.specs.Host.{HostView}
-use Rattle.theorem.specs.Acts.{Act, OpensAfterActs, OpensSo, Uses, filed, filing, has_filed, no_use}
+use Rattle.theorem.specs.Acts.{Act, Files, HasFirst, OpensAfterActs, OpensSo, Uses, filed, no_use}
+use Rattle.theorem.specs.Acts as acts
+use Rattle.recovery.specs.Sheets.{IsSheetImage}
+use Rattle.worksheet.specs.Ops.{sheet_of}
 use Rattle.check_report.specs.declared.verdict.Counts.{Counts}
+use Rattle.check_report.specs.Reports.{Case}
+use Rattle.sheet_check.specs.Accept.{Filing, ReportedAfter, ReportedInOrder, acceptance, accepted, filing}
+use Rattle.sheet_check.specs.Kept.{IsAmong}
 use Rattle.sheet_check.specs.declared.named.CheckFault.{CheckFault}
 use Rattle.driver_visits.specs.Acceptances.{LeftByAcceptance, ReportedAcceptance, only_read, put_in}
 use Rattle.host_laws.specs.Turns.{HostsInTurn}
 use Rattle.recovery.specs.Laws.{OneSheet}
 use Rattle.driver_visits.specs.Earlier.{EarlierUses}
-use Rattle.driver_visits.specs.Filed.{AcceptsThenOpens, LeavesAnswers, as_it_was, with_answers}
+use Rattle.driver_visits.specs.Filed.{AcceptsThenOpens, AnswersBeforeText, LeavesAnswers, as_it_was, with_answers}
 use Rattle.driver_visits.proofs.Leaving.{crashed_now, left_with, used_on}
 
-module _ {D : Type 0} (disk back : DiskView) (opened : Result HostView (OpenFault D)) (hosts : HostsInTurn) (one : OneSheet) (model : IsTrue disk.keeps_model) (image : IsTrue back.keeps_model → IsImage back.history.now (bytes_on back))
-    (after : OpensAfterActs back opened) (e : EarlierUses disk) where
+-- an image with all of these and some of the first of the rest
+has_first : (ops done rest : List Op) (i : Image) → IsAmong (ops ++ done) rest i → HasFirst ops (done ++ rest) done i
+has_first ops done rest i among = record {
+  done = done ++ among.done;
+  rest = among.rest;
+  split = ap (λ (l : List Op). done ++ l) among.split ∙ sym (append_assoc done among.done among.rest);
+  withheld = among.done;
+  has = refl;
+  image = subst (λ (os : List Op). IsSheetImage (sheet_of os) i) (append_assoc ops done among.done) among.image;
+}
+
+-- one of these that were reported in order was, after those before it
+pub reported_after : (x : Filing) (text : Option (List ℕ)) (put : List Op) (front before : List Case) (one : Case) (others : List Case)
+    → ReportedInOrder x text put front (before ++ one ∷ others) → ReportedAfter x text put (front ++ before) one
+reported_after x text put front [] one others all = subst (λ (l : List Case). ReportedAfter x text put l one) (sym (append-nil front)) all.0
+reported_after x text put front (c ∷ before) one others all =
+    subst (λ (l : List Case). ReportedAfter x text put l one) (append_assoc front (c ∷ []) before) (reported_after x text put (front ++ c ∷ []) before one others all.1)
+
+module _ {D : Type 0} (held : Option (List ℕ) → DiskView → Type 0) (text : Option (List ℕ)) (disk back : DiskView) (opened : Result HostView (OpenFault D)) (hosts : HostsInTurn) (one : OneSheet) (model : IsTrue disk.keeps_model)
+    (image : IsTrue back.keeps_model → IsImage back.history.now (bytes_on back)) (after : OpensAfterActs back opened) (e : EarlierUses disk) where
   opens_as : (acts : List Act) → IsTrue back.keeps_model → Uses disk.room e.image acts (bytes_on back) → OpensSo disk.room e.ops e.image (bytes_on back) acts opened
   opens_as acts kept came = after kept disk.room e.ops e.image acts e.allowed e.found came
 
-  pub leaves_answers : (reported : List Op) → LeftByAcceptance disk back reported → LeavesAnswers disk back opened e reported
-  leaves_answers reported (only_read reads) =
+  -- what was reported was on the disk
+  before-text : (ops put : List Op) (f : Files (bytes_on disk) disk ops put back) (before : List Case) (case : Case) → ReportedAfter (filing held ops f.now back) text put before case
+      → AnswersBeforeText (acceptance held disk back) text e put before case
+  before-text ops put f before case was =
+      let first = accepted (before ++ case ∷ []) in
+      record {
+        printed = was.printed;
+        there = was.disk;
+        begins = was.begins;
+        held = was.held;
+        leaves = λ crash crashed. left_with hosts one disk e (filed put first) crash (acts.filing disk back ops f was.disk.history
+            (λ keeps. weakens (IsAmong (ops ++ first) was.rest) (HasFirst ops put first) was.disk.history back.history
+            (λ i among. subst (λ (l : List Op). HasFirst ops l first i) (sym was.split) (has_first ops first was.rest i among)) (was.since keeps)) crashed no_use);
+      }
+
+  pub leaves_answers : (cases : List Case) → LeftByAcceptance (acceptance held disk back) text cases → LeavesAnswers (acceptance held disk back) text opened e cases
+  leaves_answers cases (only_read reads) =
       let kept : IsTrue back.keeps_model = subst IsTrue (sym reads.same.keeps_model) model in
       as_it_was (opens_as e.acts kept (subst (λ (i : Image). Uses disk.room e.image e.acts i) (sym (reads.looks model).content) e.came))
-  leaves_answers reported (put_in ops put f looks same more holds) =
+  leaves_answers cases (put_in ops put f looks same more holds order) =
       let now : IsTrue f.now.keeps_model = subst IsTrue (sym f.same.keeps_model) model in
       let kept : IsTrue back.keeps_model = subst IsTrue (sym same.keeps_model) now in
+      let reported = accepted cases in
+      let at_end = λ (keeps : IsTrue f.now.keeps_model). started (HasFirst ops put reported) back.history (holds keeps) in
       with_answers put f.now looks f.answers more
-      (λ crash crashed. left_with hosts one disk e (filed put []) crash (filing disk back ops f crashed no_use))
-      (λ crash crashed. left_with hosts one disk e (filed put reported) crash (has_filed disk back ops f holds crashed no_use))
+      (λ crash crashed. left_with hosts one disk e (filed put []) crash (acts.filing disk back ops f f.now.history f.moments crashed no_use))
+      (λ before case others split. before-text ops put f before case
+      (reported_after (filing held ops f.now back) text put [] before case others (subst (ReportedInOrder (filing held ops f.now back) text put []) split order)))
+      (λ crash crashed. left_with hosts one disk e (filed put reported) crash (acts.filing disk back ops f back.history at_end crashed no_use))
       (opens_as (e.acts ++ filed put reported ∷ []) kept
       (used_on disk.room e.image (bytes_on disk) (bytes_on back) e.acts (filed put reported ∷ []) e.came
-      (has_filed disk back ops f holds (crashed_now back.history (bytes_on back) (image kept)) no_use)))
+      (acts.filing disk back ops f back.history at_end (crashed_now back.history (bytes_on back) (image kept)) no_use)))
 
-pub accepts_then_opens : {D : Type 0} (text written : Option (List ℕ)) (disk back : DiskView) (answer : Result Counts CheckFault) (opened : Result HostView (OpenFault D)) → HostsInTurn → OneSheet → IsTrue disk.keeps_model
-    → (IsTrue back.keeps_model → IsImage back.history.now (bytes_on back)) → OpensAfterActs back opened → ReportedAcceptance text written disk back answer
-    → AcceptsThenOpens text written disk answer opened
-accepts_then_opens text written disk back answer opened hosts one model image after reported = record {
+pub accepts_then_opens : {D : Type 0} (held : Option (List ℕ) → DiskView → Type 0) (text written : Option (List ℕ)) (disk back : DiskView) (answer : Result Counts CheckFault) (opened : Result HostView (OpenFault D)) → HostsInTurn → OneSheet → IsTrue disk.keeps_model
+    → (IsTrue back.keeps_model → IsImage back.history.now (bytes_on back)) → OpensAfterActs back opened → ReportedAcceptance (acceptance held disk back) text written answer
+    → AcceptsThenOpens held text written disk answer opened
+accepts_then_opens held text written disk back answer opened hosts one model image after reported = record {
   cases = reported.cases;
   wrote = reported.wrote;
   back = back;
-  leaves = λ e. leaves_answers disk back opened hosts one model image after e _ reported.left;
+  leaves = λ e. leaves_answers held text disk back opened hosts one model image after e reported.cases reported.left;
 }

@@ -13,7 +13,7 @@ use Rattle.recovery.specs.Laws.{OneSheet}
 use Rattle.worksheet.specs.Ops.{sheet_of}
 use Rattle.disk_model.specs.declared.crash.Choice.{Choice}
 use Rattle.theorem.specs.Story.{CrashedSince}
-use Rattle.theorem.specs.Acts.{Act, OpensAfterActs, OpensSo, Uses, filing, has_filed, no_use, turns_of}
+use Rattle.theorem.specs.Acts.{Act, OpensAfterActs, OpensSo, Uses, filing, no_use, turns_of}
 use Rattle.theorem.proofs.Filing.{all_did}
 use Rattle.theorem.specs.Programs.{Invocations, cut_off, cut_since, ended, no_more}
 use Rattle.theorem.proofs.Reported.{opening_leaves}
@@ -34,10 +34,8 @@ pub used_on : (room : ℕ) (before mid after : Image) (acts more : List Act) →
 used_on room before mid after acts more no_use then = then
 used_on room before mid after acts more (turns_of {mid = between} {turns = turns} {acts = others} invocations rest) then =
     turns_of {mid = between} {turns = turns} {acts = others ++ more} invocations (used_on room between mid after others more rest then)
-used_on room before mid after acts more (filing {mid = between} {put = put} {acts = others} disk back ops f crash rest) then =
-    filing {mid = between} {put = put} {acts = others ++ more} disk back ops f crash (used_on room between mid after others more rest then)
-used_on room before mid after acts more (has_filed {mid = between} {put = put} {reported = reported} {acts = others} disk back ops f holds crash rest) then =
-    has_filed {mid = between} {put = put} {reported = reported} {acts = others ++ more} disk back ops f holds crash (used_on room between mid after others more rest then)
+used_on room before mid after acts more (filing {mid = between} {put = put} {reported = reported} {acts = others} disk back ops f since holds crash rest) then =
+    filing {mid = between} {put = put} {reported = reported} {acts = others ++ more} disk back ops f since holds crash (used_on room between mid after others more rest then)
 
 -- with an act that came last
 pub left_with : (hosts : HostsInTurn) (one : OneSheet) (disk : DiskView) (e : EarlierUses disk) (act : Act) (after : Image) → Uses disk.room (bytes_on disk) (act ∷ []) after → LeftWith disk e act after

@@ -11,7 +11,7 @@ use Rattle.check_report.specs.declared.report.Format.TheVariants as format
 use Rattle.check_report.specs.declared.verdict.Counts.{Counts}
 use Rattle.check_report.specs.Reports.{Case, closing_text, judgements_of, report_front}
 use Rattle.check_report.specs.Verdicts.{counts_of}
-use Rattle.sheet_check.specs.Accept.{AcceptAnswer, accepted, to_accept}
+use Rattle.sheet_check.specs.Accept.{AcceptAnswer, Acceptance, ReportedInOrder, acceptance, accepted, filing, to_accept}
 use Rattle.sheet_check.specs.Check.{OnlyRead, passage}
 use Rattle.sheet_check.specs.Evaluated.{Way}
 use Rattle.sheet_check.specs.declared.named.CheckFault.{CheckFault}
@@ -21,12 +21,14 @@ use Rattle.sheet_check.specs.declared.named.CheckFault.TheVariants as checks
 abbrev pub AtMostOneMore : List Op → List Op → Type 0
 AtMostOneMore put reported = (put ≡ reported) ⊎ ((last : Op) × (put ≡ reported ++ last ∷ []))
 
--- What an acceptance that reported these answers left of a disk that keeps the model. It couldn't open it and made reads alone. Or it opened it, which
--- changed no byte, put answers in, those and at most one more, and when it had ended each image that a crash may leave has all that it reported.
-pub data LeftByAcceptance (disk back : DiskView) : List Op → Type 0 where
-  only_read : OnlyRead disk back → LeftByAcceptance disk back []
-  put_in : {reported : List Op} (ops put : List Op) → (f : Files (bytes_on disk) disk ops put back) → Looks disk.history f.now.history
-      → SameDisk f.now back → AtMostOneMore put reported → InModel f.now (Leaves (HasFirst ops put reported) back.history.now) → LeftByAcceptance disk back reported
+-- What an acceptance that reported these cases left of a disk that keeps the model. It couldn't open it and made reads alone. Or it opened it, which
+-- changed no byte, and put answers in, those that it reported and at most one more. Each was on the disk before it was reported. When it had ended each image
+-- that a crash may leave has all of them.
+pub data LeftByAcceptance (x : Acceptance) (text : Option (List ℕ)) : List Case → Type 0 where
+  only_read : OnlyRead x.disk x.back → LeftByAcceptance x text []
+  put_in : {cases : List Case} (ops put : List Op) → (f : Files (bytes_on x.disk) x.disk ops put x.back) → Looks x.disk.history f.now.history
+      → SameDisk f.now x.back → AtMostOneMore put (accepted cases) → InModel f.now (Leaves (HasFirst ops put (accepted cases)) x.back.history.now)
+      → ReportedInOrder (filing x.held ops f.now x.back) text put [] cases → LeftByAcceptance x text cases
 
 -- what stands after the report of these cases: their counts, and nothing where it ended by a fault
 abbrev pub closing_after : List Case → Result Counts CheckFault → List ℕ
@@ -35,14 +37,15 @@ closing_after cases (Err why) = []
 
 -- An acceptance reported these cases, of which it had put in the answers that it accepts. What it wrote is the report of them and no more, but where
 -- its output failed.
-pub record ReportedAcceptance (text written : Option (List ℕ)) (disk back : DiskView) (answer : Result Counts CheckFault) : Type 0 where
+pub record ReportedAcceptance (x : Acceptance) (text written : Option (List ℕ)) (answer : Result Counts CheckFault) : Type 0 where
   pub cases : List Case
   pub wrote : (answer ≡ Err (checks.Run fault.Output) → ⊥) → Appends text written (report_front format.Accepting cases ++ closing_after cases answer)
-  pub left : LeftByAcceptance disk back (accepted cases)
+  pub left : LeftByAcceptance x text cases
 
--- Whatever `check --accept` answers, by its contract, on a disk that keeps the model, is one. Writers hold the bytes that `contents` has of them.
-abbrev pub AcceptancesAreFiled : {C W : Type 0} → (Option ℕ → Way C) → (W → Option (List ℕ)) → Type 0
-AcceptancesAreFiled {C = C} {W = W} within contents = (limit : Option ℕ) (chosen : Chosen) (disk back : DiskView) (c d : C) (a b : W) (answer : Result Counts CheckFault)
+-- Whatever `check --accept` answers, by its contract, on a disk that keeps the model, is one. Writers hold the bytes that `contents` has of them, and held
+-- some while a disk was in a state.
+abbrev pub AcceptancesAreFiled : {C W : Type 0} → (Option ℕ → Way C) → (W → Option (List ℕ)) → (Option (List ℕ) → DiskView → Type 0) → Type 0
+AcceptancesAreFiled {C = C} {W = W} within contents held = (limit : Option ℕ) (chosen : Chosen) (disk back : DiskView) (c d : C) (a b : W) (answer : Result Counts CheckFault)
     → IsTrue disk.keeps_model
-    → AcceptAnswer (to_accept (within limit) chosen) disk back (passage c d (contents a) (contents b)) ((b ≡ a) × (d ≡ c)) answer
-    → ReportedAcceptance (contents a) (contents b) disk back answer
+    → AcceptAnswer (to_accept (within limit) chosen) (acceptance held disk back) (passage c d (contents a) (contents b)) ((b ≡ a) × (d ≡ c)) answer
+    → ReportedAcceptance (acceptance held disk back) (contents a) (contents b) answer

@@ -5,10 +5,10 @@ ghost use Rattle.driver_visits.specs.Filed.{AcceptsThenOpens};
 use arrivals::Sources;
 use check_report::Counts;
 use disk_model::Disk;
+use driver::Stamped;
 use journal::OpenFault;
 use session_engine::Host;
 use sheet_check::{CheckFault, Checked, Manner, Progress, check_accepting};
-use std::io::Write;
 use theorem::opened_after;
 
 /// What an acceptance gave back and answered, and what is opened on its disk after it.
@@ -23,16 +23,16 @@ pub struct AcceptedThenOpened<D: Disk, C> {
 /// Checks a worksheet and accepts answers, by the call that `check --accept` makes, and opens the disk again.
 ///
 /// The contract is the theorem of that call, whatever uses of the program there were before: at each moment of it a crash leaves the
-/// worksheet with some of the answers that it put in; and what opens after it has all that it reported. What it had reported when it was
-/// cut off isn't said: its report isn't stamped.
-pub fn accept_then_open<D: Disk, C: Sources, W: Write, P: Progress>(
+/// worksheet with some of the answers that it put in, and with all those that it had reported by then; and what opens after it has all
+/// that it reported.
+pub fn accept_then_open<D: Disk, C: Sources, W: Stamped, P: Progress>(
     manner: &Manner<'_>,
     disk: D,
     sources: C,
     progress: &mut P,
     writer: &mut W,
 ) -> AcceptedThenOpened<D, C>
-    ensures { InModel (D.view disk) (AcceptsThenOpens (W.contents writer.old)
+    ensures { InModel (D.view disk) (AcceptsThenOpens W.held (W.contents writer.old)
         (W.contents writer.new) (D.view disk) result.answer result.opened) }
 {
     host_laws::hosts_in_turn();

@@ -24,7 +24,6 @@ use driver::{Agenda, Sink, Stamped};
 use evaluation::Programs;
 pub use filed::{AcceptedThenOpened, accept_then_open};
 pub use runs::{RanThenOpened, run_then_open};
-use std::io::Write;
 use tellings::Tells;
 
 /// Whatever is driven over a disk that keeps the model is a visit, to its end or to a fault.
@@ -63,6 +62,6 @@ pub fn fields_are_visits<P: Programs, S: Sources, T: Tells, W: Stamped>()
 {}
 
 /// What `check --accept` leaves is an acceptance, in the words of its contract, to its end or to a fault.
-pub fn acceptances_are_filed<S: Sources, W: Write>()
-    ensures { AcceptancesAreFiled (way S.after S.clock S.wakes) W.contents }
+pub fn acceptances_are_filed<S: Sources, W: Stamped>()
+    ensures { AcceptancesAreFiled (way S.after S.clock S.wakes) W.contents W.held }
 {}

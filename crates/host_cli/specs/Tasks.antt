@@ -21,7 +21,7 @@ use Rattle.host_cli.specs.declared.plans.SeveralFault.{SeveralFault}
 use Rattle.offline_programs.specs.Saying.{Saying, saying}
 use Rattle.offline_programs.specs.declared.fault.RunFault.{RunFault}
 use Rattle.offline_programs.specs.declared.fault.RunFault.TheVariants as fault
-use Rattle.program_endings.specs.AcceptProgram.{AcceptEnds}
+use Rattle.program_endings.specs.AcceptProgram.{AcceptEnds, accept_setting}
 use Rattle.program_endings.specs.CheckProgram.{CheckEnds}
 use Rattle.program_endings.specs.SeveralProgram.{TotalEnds, ending_of, is_unwritten, total_of, worksheet_line}
 use Rattle.program_endings.specs.TogetherProgram.{TogetherEnds}
@@ -139,7 +139,7 @@ module _ {Y D P S I W E Q : Type 0} (o : OutsideView D P S I W E) where
   -- `check --accept` of what they open to write
   abbrev pub AcceptsHeld : Outside Y D P S I W E Q → Outside Y D P S I W E Q → Ending → Text → Request → Type 0
   AcceptsHeld old new ending path request = (files : Result D FilesFault) × o.places.opens old.places path files new.places
-      × AcceptEnds request files (passed_of old new) (errors_of old new) ending
+      × AcceptEnds (accept_setting request o.streams.held) files (passed_of old new) (errors_of old new) ending
 
   abbrev pub AcceptsAs : Outside Y D P S I W E Q → Outside Y D P S I W E Q → Ending → Text → Request → Type 0
   AcceptsAs old new ending path request =

@@ -1,7 +1,7 @@
 //! The program `check --accept` over a worksheet's files, from its files on.
 ghost use Rattle.std.specs.Prelude.{◌≡◌, Result};
 ghost use Rattle.check_report.specs.declared.verdict.Counts.{Counts};
-ghost use Rattle.program_endings.specs.AcceptProgram.{AcceptDone, AcceptEnds, accepts_all, answer_of_acceptance};
+ghost use Rattle.program_endings.specs.AcceptProgram.{AcceptDone, AcceptEnds, accept_setting, accepts_all, answer_of_acceptance};
 ghost use Rattle.program_endings.specs.CheckProgram.{EndsChecked};
 ghost use Rattle.program_endings.specs.Passing.{passed, run};
 
@@ -12,11 +12,11 @@ use crate::telling::no_files;
 use crate::{Ending, end_program};
 use arrivals::Sources;
 use check_report::{Chosen, Counts};
+use driver::Stamped;
 use offline_programs::Says;
 use script_agenda::Outside;
 use sheet_check::{CheckFault, Checked, Manner, Progress, check_accepting};
 use sheet_files::Close;
-use std::io::Write;
 
 /// Whether a check that accepts ends well: no field was left unanswered, and, where those of one session
 /// are asked for, any was checked.
@@ -42,13 +42,13 @@ fn end_acceptance<E: Says>(
 }
 
 /// Checks the worksheet on a disk and accepts what differs, and closes the disk at the end.
-fn accept_on<D: Close, C: Sources, P: Progress, W: Write, E: Says>(
+fn accept_on<D: Close, C: Sources, P: Progress, W: Stamped, E: Says>(
     manner: &Manner<'_>,
     outside: Outside<D, C, W>,
     progress: &mut P,
     errors: &mut E,
 ) -> GivenBack<Ending, C, W>
-    ensures { AcceptDone manner.now.request.now (run ⟦<(D, C, W) as Kinds>⟧.seen outside result)
+    ensures { AcceptDone (accept_setting manner.now.request.now W.held) (run ⟦<(D, C, W) as Kinds>⟧.seen outside result)
         (⟦<E as Heard>⟧.said errors.old errors.new) result.ending }
 {
     let Outside {
@@ -72,13 +72,13 @@ fn accept_on<D: Close, C: Sources, P: Progress, W: Write, E: Says>(
 /// The whole program `check --accept` on its files, which are opened to write, or on why they weren't
 /// opened: the report goes to the output, each part flushed once what it tells is on the disk, and the
 /// line of a fault to `errors`. `progress` shows how far it is, and nothing at its end. Sources and output are given back.
-pub fn run_accept<D: Close, C: Sources, P: Progress, W: Write, E: Says>(
+pub fn run_accept<D: Close, C: Sources, P: Progress, W: Stamped, E: Says>(
     manner: &Manner<'_>,
     given: Given<D, C, W>,
     progress: &mut P,
     errors: &mut E,
 ) -> GivenBack<Ending, C, W>
-    ensures { AcceptEnds manner.now.request.now given.files
+    ensures { AcceptEnds (accept_setting manner.now.request.now W.held) given.files
         (passed ⟦<(D, C, W) as Kinds>⟧.seen given result)
         (⟦<E as Heard>⟧.said errors.old errors.new) result.ending }
 {

@@ -1,5 +1,5 @@
 -- Fields that are checked one after another, where what differs is accepted.
-use Rattle.std.proofs.Common.{◌≡◌, ◌+◌, ℕ, List, [], ◌∷◌, ◌++◌, Bool, true, false, Option, Some, None, map, refl, ap, sym, ◌∙◌, subst, append_assoc, append-nil, arith}
+use Rattle.std.proofs.Common.{◌≡◌, ◌+◌, ℕ, List, [], ◌∷◌, ◌++◌, Bool, true, false, Option, Some, None, IsTrue, map, refl, ap, sym, ◌∙◌, subst, append_assoc, append-nil, arith}
 use Rattle.std.specs.Prelude.{◌==◌, is_some, cond}
 use Rattle.std.specs.List.{AllByRecursion}
 use Rattle.std.specs.Option.{option_map_or}
@@ -7,7 +7,7 @@ use Rattle.std.proofs.KnownBytes.{Appends-trans, Appends-nil}
 use Rattle.std.proofs.lemmas.Grind.{flat_map-append}
 use Rattle.std.proofs.lemmas.Bool.Decides.{nat_tests}
 use Rattle.std.specs.Io.KnownBytes.{Appends}
-use Rattle.disk_model.specs.Disk.{DiskView}
+use Rattle.disk_model.specs.Disk.{DiskView, InModel, LeavesOnly}
 use Rattle.worksheet.specs.declared.op.Op.{Op}
 use Rattle.worksheet.specs.declared.field.Answer.{Answer}
 use Rattle.worksheet.specs.declared.field.Field.{Field}
@@ -16,7 +16,7 @@ use Rattle.worksheet.specs.Checks.{field_in, has_field}
 use Rattle.worksheet.specs.Laws.{HasShortPrompt, IsField, OpsMakeWorksheets}
 use Rattle.worksheet.specs.Ops.{field_of, next_after, order_after, order_from, sheet_of}
 use Rattle.recovery.specs.Sheets.{StoreView}
-use Rattle.sheet_check.specs.Kept.{Stores}
+use Rattle.sheet_check.specs.Kept.{HoldsAll, HoldsBut, IsAmong, Stores}
 use Rattle.sheet_check.specs.declared.accept.PutFault.{PutFault}
 use Rattle.sheet_check.specs.declared.accept.PutFault.TheVariants as refused
 use Rattle.session_engine.specs.World.{World}
@@ -36,15 +36,16 @@ use Rattle.check_report.specs.Reports.{Case, case, case_text, cases_text, report
 use Rattle.check_report.specs.Verdicts.{counts_of, total}
 use Rattle.live.specs.Records as records
 use Rattle.sheet_check.specs.Evaluated.{Way, came_if, reason_shown_in, shown_in}
-use Rattle.sheet_check.specs.Fields.{Evaluated, FieldsChecked, checked, passed}
+use Rattle.sheet_check.specs.Fields.{Evaluated, FieldChecked, FieldsChecked, checked, passed}
 use Rattle.sheet_check.specs.declared.accept_shown.Finding.{Finding}
-use Rattle.sheet_check.specs.Accept.{accepted, accepted_answer, accepted_of, answer_ops, to_accept}
-use Rattle.sheet_check.specs.inside.Accepting.{FieldBroke, FieldLast, FieldsBroke, FieldsTook, FieldsUpTo, Finds, GoesOn, NotPut, NotTaken, PutAll, ShownTook, broken, early, fault_of_acceptance, full, storing, unwritten}
+use Rattle.sheet_check.specs.Accept.{FiledAll, FiledBut, ReportedInOrder, accepted, accepted_answer, accepted_of, answer_ops, filing, to_accept}
+use Rattle.sheet_check.specs.inside.Accepting.{FieldBroke, FieldLast, FieldsBroke, FieldsTook, FieldsUpTo, Finds, GoesOn, NotPut, NotTaken, Putting, Puts, PutsNothing, ShownTook, Whatever, broken, early, fault_of_acceptance, full, putting, unwritten}
 use Rattle.sheet_check.specs.inside.Accepting as inside
 use Rattle.sheet_check.specs.inside.Checking.{EvaluationBroke, FieldFailed, FieldWrote, FirstFailed, counted_on, question}
 use Rattle.sheet_check.specs.inside.Checking as checking
 use Rattle.sheet_check.proofs.Counting.{as_judged, cases-more, front-more}
 use Rattle.sheet_check.proofs.Fields.{FieldsSoFar, fields-more, leaves-on}
+use Rattle.sheet_check.proofs.Ordering.{one_more, reported_now, reports_stay, stores_here}
 use Rattle.sheet_check.proofs.Own.{never_output}
 
 -- What is accepted takes no field away.
@@ -120,59 +121,60 @@ short_in law h w host asked id v = short-accepted v (came_if asked (shown_in w i
 
 -- Why an answer wasn't accepted.
 
-pub not_taken : (ops more : List Op) (disk : DiskView) (ones : List Op) (new : StoreView) (a : Option (List ℕ)) (why : PutFault) → NotPut (storing ops more disk new) ones why → NotTaken (storing ops more disk new) ones a a (fault_of_acceptance why)
-not_taken ops more disk ones new a refused.Full p = inside.full p.0 refl p.1 p.2 p.3 refl
-not_taken ops more disk ones new a refused.OutOfMemory p = inside.unremembered refl p refl
-not_taken ops more disk ones new a refused.Disk p = inside.broken p.0 refl p.1 p.2 refl
-
-evaluation-reported : {C : Type 0} (o : Way C) (id : ℕ) (s : At C) (h : HostView) (c : C) (why : RunFault) → EvaluationBroke o id s h c why → why ≡ fault.Output → ⊥
+pub evaluation-reported : {C : Type 0} (o : Way C) (id : ℕ) (s : At C) (h : HostView) (c : C) (why : RunFault) → EvaluationBroke o id s h c why → why ≡ fault.Output → ⊥
 evaluation-reported o id s h c why (checking.halted cause is of broke) e = never_output why of e
 evaluation-reported o id s h c why (checking.unremembered marks is lacks came) e = let no : fault.OutOfMemory ≡ fault.Output = sym is ∙ e in cc
 
-module _ {C : Type 0} (o : Way C) (chosen : Chosen) (field : Field) (s : At C) (h : HostView) (c : C) (a : Option (List ℕ)) (ops more : List Op) (disk : DiskView) (store : StoreView) where
+module _ {C : Type 0} (o : Way C) (chosen : Chosen) (field : Field) (s : At C) (h : HostView) (c : C) (a : Option (List ℕ)) (y : Putting) where
   -- the evaluation broke off
-  pub evaluation_broke : (why : RunFault) → EvaluationBroke o field.id s h c why → FieldFailed (to_accept o chosen) field s (records.left h c a a) why → Stores ops more disk store → FieldBroke (to_accept o chosen) field s (records.left h c a a) (storing ops more disk store) why
+  pub evaluation_broke : (why : RunFault) → EvaluationBroke o field.id s h c why → FieldFailed (to_accept o chosen) field s (records.left h c a a) why → PutsNothing y → FieldBroke (to_accept o chosen) field s (records.left h c a a) y why
   evaluation_broke why broke failed stores = early failed (evaluation-reported o field.id s h c why broke) stores
 
   -- there was no memory for what came
-  pub memory_broke : FieldFailed (to_accept o chosen) field s (records.left h c a a) fault.OutOfMemory → Stores ops more disk store → FieldBroke (to_accept o chosen) field s (records.left h c a a) (storing ops more disk store) fault.OutOfMemory
+  pub memory_broke : FieldFailed (to_accept o chosen) field s (records.left h c a a) fault.OutOfMemory → PutsNothing y → FieldBroke (to_accept o chosen) field s (records.left h c a a) y fault.OutOfMemory
   memory_broke failed stores = early failed (λ e. let no : fault.OutOfMemory ≡ fault.Output = e in cc) stores
+
+  -- what came wasn't put in
+  put_broke : (last : Case) (cause : PutFault) → FieldFailed (to_accept o chosen) field s (records.left h c a a) fault.OutOfMemory → FieldLast (to_accept o chosen) field s h c last
+      → Whatever y (λ x. NotPut x (accepted_of last) cause) → FieldBroke (to_accept o chosen) field s (records.left h c a a) y (fault_of_acceptance cause)
+  put_broke last refused.Full failed came put = full last refl came refl put
+  put_broke last refused.OutOfMemory failed came put = memory_broke failed put
+  put_broke last refused.Disk failed came put = broken last refl came refl put
 
   -- what came wasn't accepted, or not reported
   pub take_broke : (last : Case) (ones : List Op) (b : Option (List ℕ)) (why : RunFault) → FieldFailed (to_accept o chosen) field s (records.left h c a a) fault.OutOfMemory → FieldLast (to_accept o chosen) field s h c last → ones ≡ accepted_of last
-      → NotTaken (storing ops more disk store) ones a b why → FieldBroke (to_accept o chosen) field s (records.left h c a b) (storing ops more disk store) why
-  take_broke last ones b why failed came is (inside.full one full-is put stores place same) = full last one full-is came (sym is ∙ put) same stores place
-  take_broke last ones b why failed came is (inside.broken one disk-is put holds same) = broken last one disk-is came (sym is ∙ put) same holds
-  take_broke last ones b why failed came is (inside.unremembered memory-is stores same) =
-      subst (FieldBroke (to_accept o chosen) field s (records.left h c a b) (storing ops more disk store)) (sym memory-is)
-      (subst (λ (b : Option (List ℕ)). FieldBroke (to_accept o chosen) field s (records.left h c a b) (storing ops more disk store) fault.OutOfMemory) (sym same) (memory_broke failed stores))
-  take_broke last ones b why failed came is (inside.unwritten output-is stores) = unwritten last output-is came (subst (λ (os : List Op). Stores ops (more ++ os) disk store) is stores)
+      → NotTaken y ones a b why → FieldBroke (to_accept o chosen) field s (records.left h c a b) y why
+  take_broke last ones b why failed came is (inside.not_put cause why-is put same) =
+      subst (FieldBroke (to_accept o chosen) field s (records.left h c a b) y) (sym why-is)
+      (subst (λ (b : Option (List ℕ)). FieldBroke (to_accept o chosen) field s (records.left h c a b) y (fault_of_acceptance cause)) (sym same)
+      (put_broke last cause failed came (subst (λ (os : List Op). Whatever y (λ x. NotPut x os cause)) is put)))
+  take_broke last ones b why failed came is (inside.unwritten output-is put) = unwritten last output-is came (subst (Puts y) is put)
 
 -- A field.
 
-pub shown_took : {C : Type 0} (o : Way C) (chosen : Chosen) (field : Field) (s : At C) (h : HostView) (c : C) (a b : Option (List ℕ)) (ops more : List Op) (disk : DiskView) (store : StoreView)
+pub shown_took : {C : Type 0} (o : Way C) (chosen : Chosen) (field : Field) (s : At C) (h : HostView) (c : C) (a b : Option (List ℕ)) (y : Putting)
     (came : Option Answer) (took : Took) (t : World) (found : Finding) (j : Judgement) → Evaluated o field s came took (at t c h.store.disk) → IsHost h t
     → Finds chosen field came (reason_shown_in t field.id) found → j ≡ found.judgement
-    → Stores ops (more ++ answer_ops field.id found.answer) disk store → Appends a b found.text.items
-    → ShownTook (to_accept o chosen) (question 0 field) s (records.left h c a b) (storing ops more disk store) j
-shown_took o chosen field s h c a b ops more disk store came took t found j evaluated stands f is stores wrote =
-    subst (ShownTook (to_accept o chosen) (question 0 field) s (records.left h c a b) (storing ops more disk store)) (sym is) (
+    → Puts y (answer_ops field.id found.answer) → Appends a b found.text.items
+    → ShownTook (to_accept o chosen) (question 0 field) s (records.left h c a b) y j
+shown_took o chosen field s h c a b y came took t found j evaluated stands f is put wrote =
+    subst (ShownTook (to_accept o chosen) (question 0 field) s (records.left h c a b) y) (sym is) (
       (came, t, took, evaluated, stands, f.judged, f.error, subst (Appends a b) f.reported wrote),
-      subst (λ (x : Option Answer). Stores ops (more ++ answer_ops field.id x) disk store) f.taken stores,
+      subst (λ (x : Option Answer). Puts y (answer_ops field.id x)) f.taken put,
     )
 
-pub passed_took : {C : Type 0} (o : Way C) (chosen : Chosen) (field : Field) (w : World) (h : HostView) (c : C) (a : Option (List ℕ)) (ops more : List Op) (disk : DiskView) (store : StoreView) (counts : Counts)
-    → is_chosen chosen field ≡ false → IsHost h w → Stores ops more disk store
+pub passed_took : {C : Type 0} (o : Way C) (chosen : Chosen) (field : Field) (w : World) (h : HostView) (c : C) (a : Option (List ℕ)) (store : StoreView) (counts : Counts)
+    → is_chosen chosen field ≡ false → IsHost h w
     → (wrote : FieldWrote (to_accept o chosen) field (at w c h.store.disk) (records.left h c a a) counts counts)
-    × PutAll (storing ops more disk store) (accepted wrote.0)
-passed_took o chosen field w h c a ops more disk store counts none stands stores =
-    (([], w, passed none, stands, refl, Appends-nil a), subst (λ (os : List Op). Stores ops os disk store) (sym (append-nil more)) stores)
+    × Puts (putting store store) (accepted wrote.0)
+passed_took o chosen field w h c a store counts none stands =
+    (([], w, passed none, stands, refl, Appends-nil a), λ ops more disk stores. subst (λ (os : List Op). Stores ops os disk store) (sym (append-nil more)) stores)
 
-pub checked_took : {C : Type 0} (o : Way C) (chosen : Chosen) (field : Field) (s : At C) (h : HostView) (c : C) (a b : Option (List ℕ)) (ops more : List Op) (disk : DiskView) (store : StoreView)
+pub checked_took : {C : Type 0} (o : Way C) (chosen : Chosen) (field : Field) (s : At C) (h : HostView) (c : C) (a b : Option (List ℕ)) (y : Putting)
     (counts after : Counts) (j : Judgement) → is_chosen chosen field ≡ true
-    → ShownTook (to_accept o chosen) (question 0 field) s (records.left h c a b) (storing ops more disk store) j → after ≡ counted_on (j ∷ []) counts
-    → (wrote : FieldWrote (to_accept o chosen) field s (records.left h c a b) counts after) × PutAll (storing ops more disk store) (accepted wrote.0)
-checked_took o chosen field s h c a b ops more disk store counts after j some p is =
+    → ShownTook (to_accept o chosen) (question 0 field) s (records.left h c a b) y j → after ≡ counted_on (j ∷ []) counts
+    → (wrote : FieldWrote (to_accept o chosen) field s (records.left h c a b) counts after) × Puts y (accepted wrote.0)
+checked_took o chosen field s h c a b y counts after j some p is =
     let q = p.0 in
     let one = case field q.0 (reason_shown_in q.1 field.id) j.verdict (Some q.2) in (
       (
@@ -184,22 +186,24 @@ checked_took o chosen field s h c a b ops more disk store counts after j some p 
         subst (Appends a b)
             (sym (append-nil (case_text format.Accepting 0 one))) q.7,
       ),
-      subst (λ (os : List Op). Stores ops (more ++ os) disk store) (sym (append-nil (accepted_of one))) p.1,
+      subst (Puts y) (sym (append-nil (accepted_of one))) p.1,
     )
 
 -- Fields.
 
 -- some of the first fields were checked and what differs of them accepted, and these are left
 pub record TookSoFar {C : Type 0} (o : Way C) (chosen : Chosen) (all left : List Field) (s : At C) (h : HostView) (c : C) (a b : Option (List ℕ))
-    (ops : List Op) (disk : DiskView) (store : StoreView) (counts : Counts) : Type 0 where
+    (held : Option (List ℕ) → DiskView → Type 0) (ops : List Op) (disk : DiskView) (store : StoreView) (counts : Counts) : Type 0 where
   pub so : FieldsSoFar (to_accept o chosen) all left s h c a b counts
   pub kept : Stores ops (accepted so.cases) disk store
+  pub order : ReportedInOrder (filing held ops disk store.disk) a (accepted so.cases) [] so.cases
 
-pub none_took : {C : Type 0} (o : Way C) (chosen : Chosen) (all left : List Field) (w : World) (h : HostView) (c : C) (a : Option (List ℕ)) (ops : List Op) (disk : DiskView) (store : StoreView) (counts : Counts) → left ≡ all → counts ≡ counts_of [] → IsHost h w
-    → Stores ops [] disk store → TookSoFar o chosen all left (at w c h.store.disk) h c a a ops disk store counts
-none_took o chosen all left w h c a ops disk store counts e is stands stores = record {
+pub none_took : {C : Type 0} (o : Way C) (chosen : Chosen) (all left : List Field) (w : World) (h : HostView) (c : C) (a : Option (List ℕ)) (held : Option (List ℕ) → DiskView → Type 0) (ops : List Op) (disk : DiskView) (store : StoreView) (counts : Counts) → left ≡ all → counts ≡ counts_of [] → IsHost h w
+    → Stores ops [] disk store → TookSoFar o chosen all left (at w c h.store.disk) h c a a held ops disk store counts
+none_took o chosen all left w h c a held ops disk store counts e is stands stores = record {
   so = record { gone = []; cases = []; leads = w; split = sym e; ran = (refl, refl); stands = stands; counted = is; wrote = Appends-nil a };
   kept = stores;
+  order = tt;
 }
 
 accepted-more : (cases more : List Case) → accepted cases ++ accepted more ≡ accepted (cases ++ more)
@@ -214,18 +218,61 @@ goes_further sheet store new on cases stores = record {
   stores = subst (λ (os : List Op). Stores on.ops os on.disk new) (accepted-more on.cases cases) stores;
 }
 
+-- a field that has a case is one of those that are checked
+was-chosen : {C : Type 0} (o : Way C) (chosen : Chosen) (field : Field) (s : At C) (last : Case) (t : At C) → FieldChecked o chosen field s (last ∷ []) t → is_chosen chosen field ≡ true
+was-chosen o chosen field s last t (checked came took verdict u some evaluated judged) = some
+
 module _ {C : Type 0} (o : Way C) (chosen : Chosen) (all left : List Field) (field : Field) (others : List Field) (s : At C) (h : HostView) (c : C)
-    (a b : Option (List ℕ)) (ops : List Op) (disk : DiskView) (store : StoreView)
-    (counts : Counts) (g : HostView) (d : C) (e : Option (List ℕ)) (new : StoreView) (is : left ≡ field ∷ others) (taken : TookSoFar o chosen all left s h c a b ops disk store counts) where
+    (a b : Option (List ℕ)) (held : Option (List ℕ) → DiskView → Type 0) (ops : List Op) (disk : DiskView) (store : StoreView)
+    (counts : Counts) (g : HostView) (d : C) (e : Option (List ℕ)) (new : StoreView) (is : left ≡ field ∷ others) (taken : TookSoFar o chosen all left s h c a b held ops disk store counts) where
   so : FieldsSoFar (to_accept o chosen) all left s h c a b counts
   so = taken.so
 
   split-on : all ≡ (taken.so.gone ++ field ∷ []) ++ others
   split-on = taken.so.split ∙ ap (λ x. taken.so.gone ++ x) is ∙ sym (append_assoc taken.so.gone (field ∷ []) others)
 
-  pub one_took : (after : Counts) → (wrote : FieldWrote (to_accept o chosen) field (at taken.so.leads c h.store.disk) (records.left g d b e) counts after) × PutAll (storing ops (accepted taken.so.cases) disk new) (accepted wrote.0)
-      → TookSoFar o chosen all others s g d a e ops disk new after
-  one_took after q =
+  put-so : List Op
+  put-so = accepted taken.so.cases
+
+  here : Stores (ops ++ put-so) [] store.disk store
+  here = stores_here ops put-so disk store taken.kept
+
+  model : IsTrue disk.keeps_model → IsTrue store.disk.keeps_model
+  model keeps = subst IsTrue (sym taken.kept.disk.same.keeps_model) keeps
+
+  -- what was reported stays
+  stay : (ones : List Op) → InModel store.disk (LeavesOnly (IsAmong (ops ++ put-so) ones) store.disk.history new.disk.history)
+      → ReportedInOrder (filing held ops disk new.disk) a (put-so ++ ones) [] taken.so.cases
+  stay ones step = reports_stay held a ops disk store.disk new.disk put-so ones (λ keeps. step (model keeps)) [] taken.so.cases taken.order
+
+  stay-all : InModel store.disk (LeavesOnly (IsAmong (ops ++ put-so) []) store.disk.history new.disk.history)
+      → ReportedInOrder (filing held ops disk new.disk) a put-so [] taken.so.cases
+  stay-all step = subst (λ (os : List Op). ReportedInOrder (filing held ops disk new.disk) a os [] taken.so.cases) (append-nil put-so) (stay [] step)
+
+  -- so does it with one case more
+  one-reported : (one : Case) → Puts (putting store new) (accepted_of one) → held b new.disk → FiledAll (filing held ops disk new.disk) a (taken.so.cases ++ one ∷ [])
+  one-reported one put stamped =
+      let all : put-so ++ accepted_of one ≡ accepted (taken.so.cases ++ one ∷ []) =
+      ap (λ (os : List Op). put-so ++ os) (sym (append-nil (accepted_of one))) ∙ accepted-more taken.so.cases (one ∷ []) in
+      let holds = subst (λ (os : List Op). HoldsAll ops os disk new.disk) all (put ops put-so disk taken.kept).disk in
+      let before = subst (λ (os : List Op). ReportedInOrder (filing held ops disk new.disk) a os [] taken.so.cases) all
+      (stay (accepted_of one) (put (ops ++ put-so) [] store.disk here).disk.moments) in
+      (holds, one_more (filing held ops disk new.disk) a (accepted (taken.so.cases ++ one ∷ [])) [] taken.so.cases one before
+      (reported_now held a b ops disk new.disk taken.so.cases one taken.so.wrote stamped holds))
+
+  -- a field was passed over, or checked and reported
+  in-order : (cases : List Case) (t : At C) → FieldChecked o chosen field (at taken.so.leads c h.store.disk) cases t → Puts (putting store new) (accepted cases) → (is_chosen chosen field ≡ true → held b new.disk)
+      → ReportedInOrder (filing held ops disk new.disk) a (accepted (taken.so.cases ++ cases)) [] (taken.so.cases ++ cases)
+  in-order cases t (passed none) put stamped =
+      subst (λ (cs : List Case). ReportedInOrder (filing held ops disk new.disk) a (accepted cs) [] cs) (sym (append-nil taken.so.cases))
+      (stay-all (put (ops ++ put-so) [] store.disk here).disk.moments)
+  in-order cases t (checked came took verdict u some evaluated judged) put stamped =
+      let one = case field came (reason_shown_in u.world field.id) verdict (Some took) in
+      (one-reported one (subst (Puts (putting store new)) (append-nil (accepted_of one)) put) (stamped some)).1
+
+  pub one_took : (after : Counts) → (wrote : FieldWrote (to_accept o chosen) field (at taken.so.leads c h.store.disk) (records.left g d b e) counts after) × Puts (putting store new) (accepted wrote.0)
+      → (is_chosen chosen field ≡ true → held b new.disk) → TookSoFar o chosen all others s g d a e held ops disk new after
+  one_took after q stamped =
       let p = q.0 in
       record {
         so = record {
@@ -239,7 +286,8 @@ module _ {C : Type 0} (o : Way C) (chosen : Chosen) (all left : List Field) (fie
           wrote = subst (Appends a e) (sym (front-more format.Accepting taken.so.cases p.0 counts taken.so.counted))
               (Appends-trans a b e (report_front format.Accepting taken.so.cases) (cases_text format.Accepting (total counts + 1) p.0) taken.so.wrote p.5);
         };
-        kept = subst (λ (os : List Op). Stores ops os disk new) (accepted-more taken.so.cases p.0) q.1;
+        kept = subst (λ (os : List Op). Stores ops os disk new) (accepted-more taken.so.cases p.0) (q.1 ops put-so disk taken.kept);
+        order = in-order p.0 (at p.1 d g.store.disk) p.2 q.1 stamped;
       }
 
   up-to : (last : Case) → FieldLast (to_accept o chosen) field (at taken.so.leads c h.store.disk) g d last → FieldsUpTo (to_accept o chosen) all s g d (taken.so.cases ++ last ∷ [])
@@ -255,8 +303,24 @@ module _ {C : Type 0} (o : Way C) (chosen : Chosen) (all left : List Field) (fie
   reported-so : e ≡ b → Appends a e (report_front format.Accepting taken.so.cases)
   reported-so same = subst (λ (x : Option (List ℕ)). Appends a x (report_front format.Accepting taken.so.cases)) (sym same) taken.so.wrote
 
-  pub one_broke : (why : RunFault) → FieldBroke (to_accept o chosen) field (at taken.so.leads c h.store.disk) (records.left g d b e) (storing ops (accepted taken.so.cases) disk new) why → FieldsBroke (to_accept o chosen) all s (records.left g d a e) (storing ops [] disk new) why
-  one_broke why (early failed withheld stores) = early
+  -- nothing was put
+  nothing-more : PutsNothing (putting store new) → FiledAll (filing held ops disk new.disk) a taken.so.cases
+  nothing-more none = ((none ops put-so disk taken.kept).disk, stay-all (none (ops ++ put-so) [] store.disk here).disk.moments)
+
+  -- the disk failed at one
+  but-one : (last : Case) (one : Op) → accepted_of last ≡ one ∷ [] → Whatever (putting store new) (λ x. NotPut x (accepted_of last) refused.Disk) → FiledBut (filing held ops disk new.disk) a taken.so.cases one
+  but-one last one is put =
+      let there = put ops put-so disk taken.kept in
+      let since = put (ops ++ put-so) [] store.disk here in
+      let same : there.0 ∷ [] ≡ one ∷ [] = sym there.1 ∙ is in
+      let the_same : there.0 ≡ one = cc in (
+        subst (λ (o : Op). HoldsBut ops put-so o disk new.disk) the_same there.2,
+        stay (one ∷ []) (subst (λ (os : List Op). InModel store.disk (LeavesOnly (IsAmong (ops ++ put-so) os) store.disk.history new.disk.history)) (sym since.1 ∙ is) since.2.moments),
+      )
+
+  pub one_broke : (why : RunFault) → FieldBroke (to_accept o chosen) field (at taken.so.leads c h.store.disk) (records.left g d b e) (putting store new) why
+      → (is_chosen chosen field ≡ true → why ≡ fault.Output → held b new.disk) → FieldsBroke (to_accept o chosen) all s (records.left g d a e) (filing held ops disk new.disk) why
+  one_broke why (early failed withheld none) stamped = early
       (record {
         gone = taken.so.gone;
         left = left;
@@ -267,15 +331,20 @@ module _ {C : Type 0} (o : Way C) (chosen : Chosen) (all left : List Field) (fie
         failed = subst (λ x. FirstFailed (to_accept o chosen) x (at taken.so.leads c h.store.disk) g d why) (sym is) (failed.0 others);
         wrote = leaves-on (to_accept o chosen) all left field others s h c a b counts g d e is taken.so why failed.1;
       })
-      withheld stores
-  one_broke why (full last one is-full came taken-is same stores place) = full taken.so.cases last one is-full (up-to last came) taken-is (reported-so same) stores place
-  one_broke why (broken last one is-disk came taken-is same holds) = broken taken.so.cases last one is-disk (up-to last came) taken-is (reported-so same) holds
-  one_broke why (unwritten last is-output came stores) = unwritten (taken.so.cases ++ last ∷ []) is-output (up-to last came)
-      (subst (λ (os : List Op). Stores ops os disk new) (ap (λ (os : List Op). accepted taken.so.cases ++ os) (sym (append-nil (accepted_of last))) ∙ accepted-more taken.so.cases (last ∷ [])) stores)
+      withheld (nothing-more none)
+  one_broke why (full last is-full came same put) stamped =
+      let there = put ops put-so disk taken.kept in
+      full taken.so.cases last there.0 is-full (up-to last came) there.1 (reported-so same) (nothing-more (λ ops more disk stores. (put ops more disk stores).2)) there.3
+  one_broke why (broken last is-disk came same put) stamped =
+      let there = put ops put-so disk taken.kept in
+      broken taken.so.cases last there.0 is-disk (up-to last came) there.1 (reported-so same) (but-one last there.0 there.1 put)
+  one_broke why (unwritten last is-output came put) stamped =
+      unwritten (taken.so.cases ++ last ∷ []) is-output (up-to last came)
+      (one-reported last put (stamped (was-chosen o chosen field (at taken.so.leads c h.store.disk) last (at came.0 d g.store.disk) came.1) is-output))
 
-pub all_took : {C : Type 0} (o : Way C) (chosen : Chosen) (all left : List Field) (s : At C) (h : HostView) (c : C) (a b : Option (List ℕ)) (ops : List Op) (disk : DiskView) (store : StoreView) (counts : Counts) → left ≡ []
-    → TookSoFar o chosen all left s h c a b ops disk store counts → FieldsTook (to_accept o chosen) all s (records.left h c a b) (storing ops [] disk store) counts
-all_took o chosen all left s h c a b ops disk store counts e taken =
+pub all_took : {C : Type 0} (o : Way C) (chosen : Chosen) (all left : List Field) (s : At C) (h : HostView) (c : C) (a b : Option (List ℕ)) (held : Option (List ℕ) → DiskView → Type 0) (ops : List Op) (disk : DiskView) (store : StoreView) (counts : Counts) → left ≡ []
+    → TookSoFar o chosen all left s h c a b held ops disk store counts → FieldsTook (to_accept o chosen) all s (records.left h c a b) (filing held ops disk store.disk) counts
+all_took o chosen all left s h c a b held ops disk store counts e taken =
     let same : taken.so.gone ≡ all = sym (taken.so.split ∙ ap (λ x. taken.so.gone ++ x) e ∙ append-nil taken.so.gone) in (
       (
         taken.so.cases,
@@ -286,5 +355,5 @@ all_took o chosen all left s h c a b ops disk store counts e taken =
         taken.so.counted,
         taken.so.wrote,
       ),
-      taken.kept,
+      (taken.kept.disk, taken.order),
     )

@@ -27,21 +27,21 @@ use Rattle.check_report.specs.declared.verdict.Counts.{Counts}
 use Rattle.check_report.specs.Reports.{Case, closing_text, report_front, judgements_of}
 use Rattle.check_report.specs.Verdicts.{counts_of}
 use Rattle.live.specs.Records as records
-use Rattle.sheet_check.specs.Accept.{AcceptLeft, FiledAll, FoundOn, SheetAccepts, accepted, filing, to_accept}
+use Rattle.sheet_check.specs.Accept.{AcceptLeft, FiledAll, Filing, FoundOn, SheetAccepts, to_accept}
 use Rattle.sheet_check.specs.Accept as ends
 use Rattle.sheet_check.specs.Check.{FirstLed, IsCopy, SheetLed, passage, still}
 use Rattle.sheet_check.specs.Evaluated.{Way}
-use Rattle.sheet_check.specs.inside.Accepting.{FieldsBroke, FieldsTook, FieldsUpTo, OnCopy, PutAll, broken, early, full, storing, unwritten}
+use Rattle.sheet_check.specs.inside.Accepting.{FieldsBroke, FieldsTook, FieldsUpTo, OnCopy, broken, early, full, unwritten}
 use Rattle.sheet_check.specs.inside.Checking.{CountsWritten, FieldsEnded, FieldsFailed, FirstStopped}
 use Rattle.sheet_check.specs.inside.Checking as inside
 use Rattle.sheet_check.proofs.Ends.{StopsNumbered, first-stopped, text_left}
 use Rattle.sheet_check.proofs.Own.{never_open}
 
 module _ {C : Type 0} (o : Way C) (chosen : Chosen) (sheet : Contents) (w : World) (copy : DiskView) (h : HostView) (c mid d : C) (a b : Option (List ℕ))
-    (ops : List Op) (disk : DiskView) (store : StoreView) (stops : StopsIn o.after h mid d)
+    (x : Filing) (stops : StopsIn o.after h mid d)
     (numbered : StopsNumbered o.after h mid d) where
-  pub took_ended : (counts : Counts) → FieldsTook (to_accept o chosen) sheet.fields (at w c copy) (records.left h mid a b) (storing ops [] disk store) counts
-      → (ended : FieldsEnded (to_accept o chosen) sheet.fields w copy (passage c d a b) counts) × PutAll (storing ops [] disk store) (accepted ended.0)
+  pub took_ended : (counts : Counts) → FieldsTook (to_accept o chosen) sheet.fields (at w c copy) (records.left h mid a b) x counts
+      → (ended : FieldsEnded (to_accept o chosen) sheet.fields w copy (passage c d a b) counts) × FiledAll x a ended.0
   took_ended counts p = ((p.0.0, at p.0.1 mid h.store.disk, p.0.2, stops.0 p.0.1 p.0.3, p.0.4, p.0.5), p.1)
 
   led-so : IsCopy sheet w copy → (cases : List Case) → FieldsUpTo (to_accept o chosen) sheet.fields (at w c copy) h mid cases → SheetLed (to_accept o chosen) sheet c d cases
@@ -59,33 +59,33 @@ module _ {C : Type 0} (o : Way C) (chosen : Chosen) (sheet : Contents) (w : Worl
     stops = stops.0 p.leads p.stands;
   }
 
-  early-left : IsCopy sheet w copy → (why : RunFault) → (p : FieldsFailed (to_accept o chosen) sheet.fields (at w c copy) (records.left h mid a b) why) → (why ≡ fault.Output → ⊥) → Stores ops (accepted p.cases) disk store
-      → AcceptLeft (to_accept o chosen) sheet (passage c d a b) (filing ops disk store.disk) why
-  early-left copied why p withheld stores = left-by (first-stopped (to_accept o chosen) p.left p.mid h mid d stops numbered why p.failed)
+  early-left : IsCopy sheet w copy → (why : RunFault) → (p : FieldsFailed (to_accept o chosen) sheet.fields (at w c copy) (records.left h mid a b) why) → (why ≡ fault.Output → ⊥) → FiledAll x a p.cases
+      → AcceptLeft (to_accept o chosen) sheet (passage c d a b) x why
+  early-left copied why p withheld filed = left-by (first-stopped (to_accept o chosen) p.left p.mid h mid d stops numbered why p.failed)
       (text_left a b (report_front format.Accepting p.cases) why p.wrote withheld)
     where
       led-to : (t : At C) → FirstLed (to_accept o chosen) p.left p.mid t → Stops o.after (running t.world) t.children d → SheetLed (to_accept o chosen) sheet c d p.cases
       led-to t so stopped =
           record { start = w; copy = copy; copied = copied; gone = p.gone; left = p.left; split = p.split; mid = p.mid; checked = p.checked; leads = t; led = so; stops = stopped }
 
-      left-by : FirstStopped (to_accept o chosen) p.left p.mid d why → Appends a b (report_front format.Accepting p.cases) → AcceptLeft (to_accept o chosen) sheet (passage c d a b) (filing ops disk store.disk) why
+      left-by : FirstStopped (to_accept o chosen) p.left p.mid d why → Appends a b (report_front format.Accepting p.cases) → AcceptLeft (to_accept o chosen) sheet (passage c d a b) x why
       left-by (inside.halted k m broke stopped) wrote = ends.halted p.cases
           (record { start = w; copy = copy; copied = copied; gone = p.gone; left = p.left; split = p.split; mid = p.mid; checked = p.checked; host = k; sources = m; broke = broke; stops = stopped })
-          wrote stores.disk
-      left-by (inside.unremembered t is so stopped) wrote = ends.unremembered p.cases is (led-to t so stopped) wrote stores.disk
+          wrote filed
+      left-by (inside.unremembered t is so stopped) wrote = ends.unremembered p.cases is (led-to t so stopped) wrote filed
       left-by (inside.unwritten t is so stopped) wrote = absurd (withheld is)
 
-  pub broke_left : IsCopy sheet w copy → (why : RunFault) → FieldsBroke (to_accept o chosen) sheet.fields (at w c copy) (records.left h mid a b) (storing ops [] disk store) why → AcceptLeft (to_accept o chosen) sheet (passage c d a b) (filing ops disk store.disk) why
-  broke_left copied why (early failed withheld stores) = early-left copied why failed withheld stores
-  broke_left copied why (full cases last one is checked taken wrote stores place) = ends.full cases last one is (led-so copied (cases ++ last ∷ []) checked) taken wrote stores.disk place
-  broke_left copied why (broken cases last one is checked taken wrote holds) = ends.broken cases last one is (led-so copied (cases ++ last ∷ []) checked) taken wrote holds
-  broke_left copied why (unwritten cases is checked stores) = ends.unwritten cases is (led-so copied cases checked) stores.disk
+  pub broke_left : IsCopy sheet w copy → (why : RunFault) → FieldsBroke (to_accept o chosen) sheet.fields (at w c copy) (records.left h mid a b) x why → AcceptLeft (to_accept o chosen) sheet (passage c d a b) x why
+  broke_left copied why (early failed withheld filed) = early-left copied why failed withheld filed
+  broke_left copied why (full cases last one is checked taken wrote filed place) = ends.full cases last one is (led-so copied (cases ++ last ∷ []) checked) taken wrote filed place
+  broke_left copied why (broken cases last one is checked taken wrote filed) = ends.broken cases last one is (led-so copied (cases ++ last ∷ []) checked) taken wrote filed
+  broke_left copied why (unwritten cases is checked filed) = ends.unwritten cases is (led-so copied cases checked) filed
 
 -- The counts are reported, or not.
 module _ {C : Type 0} (o : Way C) (chosen : Chosen) (sheet : Contents) (w : World) (copy : DiskView) (copied : IsCopy sheet w copy) (c d : C)
-    (a b e : Option (List ℕ)) (ops : List Op) (disk : DiskView) (store : StoreView) (nothing : Type 0) (counts : Counts)
-    (p : (ended : FieldsEnded (to_accept o chosen) sheet.fields w copy (passage c d a b) counts) × PutAll (storing ops [] disk store) (accepted ended.0)) where
-  pub counts_reported : Appends b e (closing_text format.Accepting counts) → SheetAccepts (to_accept o chosen) sheet (passage c d a e) nothing (filing ops disk store.disk) (Ok counts)
+    (a b e : Option (List ℕ)) (x : Filing) (nothing : Type 0) (counts : Counts)
+    (p : (ended : FieldsEnded (to_accept o chosen) sheet.fields w copy (passage c d a b) counts) × FiledAll x a ended.0) where
+  pub counts_reported : Appends b e (closing_text format.Accepting counts) → SheetAccepts (to_accept o chosen) sheet (passage c d a e) nothing x (Ok counts)
   counts_reported reported = (
     record {
       start = w;
@@ -97,12 +97,12 @@ module _ {C : Type 0} (o : Way C) (chosen : Chosen) (sheet : Contents) (w : Worl
       stops = p.0.3;
       counted = p.0.4;
       wrote = Appends-trans a b e (report_front format.Accepting p.0.0) (closing_text format.Accepting (counts_of (judgements_of p.0.0))) p.0.5
-          (subst (λ x. Appends b e (closing_text format.Accepting x)) p.0.4 reported);
+          (subst (λ n. Appends b e (closing_text format.Accepting n)) p.0.4 reported);
     },
-    p.1.disk,
+    p.1,
   )
 
-  pub counts_kept_back : (why : RunFault) → why ≡ fault.Output → AcceptLeft (to_accept o chosen) sheet (passage c d a e) (filing ops disk store.disk) why
+  pub counts_kept_back : (why : RunFault) → why ≡ fault.Output → AcceptLeft (to_accept o chosen) sheet (passage c d a e) x why
   counts_kept_back why is = ends.unwritten p.0.0 is
       (record {
         start = w;
@@ -117,7 +117,7 @@ module _ {C : Type 0} (o : Way C) (chosen : Chosen) (sheet : Contents) (w : Worl
         led = still refl;
         stops = p.0.3;
       })
-      p.1.disk
+      p.1
 
 -- A host on a copy has the worksheet that was copied.
 pub copy_is : OneSheet → (sheet : Contents) (w : World) (h : HostView) → IsHost h w → IsCopy sheet w h.store.disk → h.store.sheet.contents ≡ sheet
@@ -151,31 +151,31 @@ module _ (disk : DiskView) (store : StoreView) (ops : List Op) (makes : Makes op
   opened_on steady found looks durable = record { is = makes.is; same = same; steady = steady; found = found; looks = looks; durable = durable }
 
 -- A worksheet that was opened isn't reported as one that wasn't.
-module _ {C : Type 0} (o : Way C) (chosen : Chosen) (sheet : Contents) (c d : C) (a b : Option (List ℕ)) (ops : List Op) (now back : DiskView) (x : OpenCause) where
-  left_opened : (why : RunFault) → why ≡ fault.Open x → AcceptLeft (to_accept o chosen) sheet (passage c d a b) (filing ops now back) why → ⊥
+module _ {C : Type 0} (o : Way C) (chosen : Chosen) (sheet : Contents) (c d : C) (a b : Option (List ℕ)) (f : Filing) (x : OpenCause) where
+  left_opened : (why : RunFault) → why ≡ fault.Open x → AcceptLeft (to_accept o chosen) sheet (passage c d a b) f why → ⊥
   left_opened why e (ends.halted cases led wrote holds) = never_open why x led.broke.of e
   left_opened why e (ends.unremembered cases is led wrote holds) = let no : fault.OutOfMemory ≡ fault.Open x = sym is ∙ e in cc
   left_opened why e (ends.full cases last one is led taken wrote holds place) = let no : fault.Host hosts.JournalFull ≡ fault.Open x = sym is ∙ e in cc
   left_opened why e (ends.broken cases last one is led taken wrote holds) = let no : fault.Host hosts.Disk ≡ fault.Open x = sym is ∙ e in cc
   left_opened why e (ends.unwritten cases is led holds) = let no : fault.Output ≡ fault.Open x = sym is ∙ e in cc
 
-  pub was_opened : (nothing : Type 0) → SheetAccepts (to_accept o chosen) sheet (passage c d a b) nothing (filing ops now back) (Err (fault.Open x)) → ⊥
+  pub was_opened : (nothing : Type 0) → SheetAccepts (to_accept o chosen) sheet (passage c d a b) nothing f (Err (fault.Open x)) → ⊥
   was_opened nothing (inl p) = let no : fault.Open x ≡ fault.OutOfMemory = p.0 in cc
   was_opened nothing (inr left) = left_opened (fault.Open x) refl left
 
 -- The counts were written, or there was no memory for the copies.
-pub accept_answered : {C : Type 0} (o : Way C) (chosen : Chosen) (sheet : Contents) (c d : C) (a b e : Option (List ℕ)) (ops : List Op) (disk : DiskView) (store : StoreView) (nothing : Type 0)
-    (answer : Option (Result Counts RunFault)) (result : Result Counts RunFault) → IfSome answer (OnCopy (to_accept o chosen) sheet (passage c d a b) (storing ops [] disk store))
-    → IfNone answer (nothing × FiledAll (filing ops disk store.disk) []) → CountsWritten format.Accepting b e answer result
-    → SheetAccepts (to_accept o chosen) sheet (passage c d a e) nothing (filing ops disk store.disk) result
-accept_answered o chosen sheet c d a b e ops disk store nothing None result some none is =
-    subst (SheetAccepts (to_accept o chosen) sheet (passage c d a e) nothing (filing ops disk store.disk)) (sym is) (inl (refl, none.0, none.1))
-accept_answered o chosen sheet c d a b e ops disk store nothing (Some (Ok counts)) result some none (inl (is, closing)) =
-    subst (SheetAccepts (to_accept o chosen) sheet (passage c d a e) nothing (filing ops disk store.disk)) (sym is)
-    (counts_reported o chosen sheet some.0 some.1 some.2 c d a b e ops disk store nothing counts some.3 closing)
-accept_answered o chosen sheet c d a b e ops disk store nothing (Some (Ok counts)) result some none (inr is) =
-    subst (SheetAccepts (to_accept o chosen) sheet (passage c d a e) nothing (filing ops disk store.disk)) (sym is)
-    (inr (counts_kept_back o chosen sheet some.0 some.1 some.2 c d a b e ops disk store nothing counts some.3 fault.Output refl))
-accept_answered o chosen sheet c d a b e ops disk store nothing (Some (Err why)) result some none (is, same) =
-    subst (SheetAccepts (to_accept o chosen) sheet (passage c d a e) nothing (filing ops disk store.disk)) (sym is)
-    (inr (subst (λ x. AcceptLeft (to_accept o chosen) sheet (passage c d a x) (filing ops disk store.disk) why) (sym same) some.4))
+pub accept_answered : {C : Type 0} (o : Way C) (chosen : Chosen) (sheet : Contents) (c d : C) (a b e : Option (List ℕ)) (x : Filing) (nothing : Type 0)
+    (answer : Option (Result Counts RunFault)) (result : Result Counts RunFault) → IfSome answer (OnCopy (to_accept o chosen) sheet (passage c d a b) x)
+    → IfNone answer (nothing × FiledAll x a []) → CountsWritten format.Accepting b e answer result
+    → SheetAccepts (to_accept o chosen) sheet (passage c d a e) nothing x result
+accept_answered o chosen sheet c d a b e x nothing None result some none is =
+    subst (SheetAccepts (to_accept o chosen) sheet (passage c d a e) nothing x) (sym is) (inl (refl, none.0, none.1))
+accept_answered o chosen sheet c d a b e x nothing (Some (Ok counts)) result some none (inl (is, closing)) =
+    subst (SheetAccepts (to_accept o chosen) sheet (passage c d a e) nothing x) (sym is)
+    (counts_reported o chosen sheet some.0 some.1 some.2 c d a b e x nothing counts some.3 closing)
+accept_answered o chosen sheet c d a b e x nothing (Some (Ok counts)) result some none (inr is) =
+    subst (SheetAccepts (to_accept o chosen) sheet (passage c d a e) nothing x) (sym is)
+    (inr (counts_kept_back o chosen sheet some.0 some.1 some.2 c d a b e x nothing counts some.3 fault.Output refl))
+accept_answered o chosen sheet c d a b e x nothing (Some (Err why)) result some none (is, same) =
+    subst (SheetAccepts (to_accept o chosen) sheet (passage c d a e) nothing x) (sym is)
+    (inr (subst (λ t. AcceptLeft (to_accept o chosen) sheet (passage c d a t) x why) (sym same) some.4))

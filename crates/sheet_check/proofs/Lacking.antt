@@ -11,7 +11,7 @@ use Rattle.offline_programs.specs.declared.fault.RunFault.{RunFault}
 use Rattle.offline_programs.specs.declared.fault.RunFault.TheVariants as fault
 use Rattle.check_report.specs.declared.chosen.Chosen.{Chosen}
 use Rattle.check_report.specs.declared.verdict.Counts.{Counts}
-use Rattle.sheet_check.specs.Accept.{SheetAccepts, filing, to_accept}
+use Rattle.sheet_check.specs.Accept.{Filing, SheetAccepts, to_accept}
 use Rattle.sheet_check.specs.Check.{Passage, SheetAnswer, TellsCheck, passage}
 use Rattle.sheet_check.specs.Check as ends
 use Rattle.sheet_check.specs.Evaluated.{OneByOne, Way, one_by_one}
@@ -95,8 +95,8 @@ together_check_unopened o sheet q missing nothing answer x reported e =
 
 -- Where answers are accepted.
 
-pub accept_unopened : {C : Type 0} (o : Way C) (chosen : Chosen) (sheet : Contents) (c d : C) (a b : Option (List ℕ)) (ops : List Op) (now back : DiskView) (missing : Option ℕ) (nothing done : Type 0) (answer : Result Counts CheckFault) (x : OpenCause)
-    → ByNames missing done (SheetAccepts (to_accept o chosen) sheet (passage c d a b) nothing (filing ops now back)) answer → answer ≡ Err (checks.Run (fault.Open x)) → ⊥
-accept_unopened o chosen sheet c d a b ops now back missing nothing done answer x reported e =
-    came_of missing done (SheetAccepts (to_accept o chosen) sheet (passage c d a b) nothing (filing ops now back)) answer (fault.Open x)
-    (λ counted is came. was_opened o chosen sheet c d a b ops now back x nothing (subst (SheetAccepts (to_accept o chosen) sheet (passage c d a b) nothing (filing ops now back)) is came)) reported e
+pub accept_unopened : {C : Type 0} (o : Way C) (chosen : Chosen) (sheet : Contents) (c d : C) (a b : Option (List ℕ)) (f : Filing) (missing : Option ℕ) (nothing done : Type 0) (answer : Result Counts CheckFault) (x : OpenCause)
+    → ByNames missing done (SheetAccepts (to_accept o chosen) sheet (passage c d a b) nothing f) answer → answer ≡ Err (checks.Run (fault.Open x)) → ⊥
+accept_unopened o chosen sheet c d a b f missing nothing done answer x reported e =
+    came_of missing done (SheetAccepts (to_accept o chosen) sheet (passage c d a b) nothing f) answer (fault.Open x)
+    (λ counted is came. was_opened o chosen sheet c d a b f x nothing (subst (SheetAccepts (to_accept o chosen) sheet (passage c d a b) nothing f) is came)) reported e

@@ -4,6 +4,7 @@ pub mod Counting
 pub mod Fields
 pub mod Ends
 pub mod Showing
+pub mod Ordering
 pub mod Accepted
 pub mod Kept
 pub mod Lacking

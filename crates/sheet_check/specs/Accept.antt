@@ -2,14 +2,14 @@
 use Rattle.std.specs.Prelude.{◌≡◌, ◌⊎◌, ℕ, List, [], ◌∷◌, ◌++◌, Option, Some, None, Result, Ok, Err}
 use Rattle.std.specs.List.{flat_map}
 use Rattle.std.specs.Io.KnownBytes.{Appends}
-use Rattle.disk_model.specs.Disk.{DiskView, InModel, Leaves, Looks, SameDisk, bytes_on}
+use Rattle.disk_model.specs.Disk.{DiskView, InModel, Leaves, LeavesOnly, Looks, SameDisk, bytes_on}
 use Rattle.worksheet.specs.declared.op.Op.{Op}
 use Rattle.worksheet.specs.declared.field.Answer.{Answer}
 use Rattle.worksheet.specs.Contents.{Contents}
 use Rattle.worksheet.specs.Ops.{sheet_of}
 use Rattle.journal.specs.declared.opening.OpenCause.{OpenCause}
 use Rattle.recovery.specs.Sheets.{IsSheetImage, TellsOfSheet}
-use Rattle.sheet_check.specs.Kept.{HoldsAll, HoldsBut, NoPlace, answer_op}
+use Rattle.sheet_check.specs.Kept.{HoldsAll, HoldsBut, IsAmong, NoPlace, answer_op}
 use Rattle.host_events.specs.declared.outcome.HostFault.TheVariants as hosts
 use Rattle.child_edge.specs.Faithful.{Relation}
 use Rattle.live.specs.Records.{Clock, Watch}
@@ -67,46 +67,77 @@ pub record FoundOn (disk : DiskView) (sheet : Contents) (ops : List Op) (now : D
   pub looks : InModel disk (Looks disk.history now.history)
   pub durable : InModel disk (Leaves (IsSheetImage sheet) now.history.now)
 
--- Answers are put after these ops on a disk: the disk before that, and after it.
-pub record Filing : Type 0 where
+-- Answers are put after these ops on a disk: the disk before that, and after it; and what the output held while a disk was in which state.
+pub record Filing : Type 1 where
+  pub held : Option (List ℕ) → DiskView → Type 0
   pub ops : List Op
   pub before : DiskView
   pub after : DiskView
 
-abbrev pub filing : List Op → DiskView → DiskView → Filing
-filing ops before after = record { ops = ops; before = before; after = after }
+abbrev pub filing : (Option (List ℕ) → DiskView → Type 0) → List Op → DiskView → DiskView → Filing
+filing held ops before after = record { held = held; ops = ops; before = before; after = after }
 
--- on the disk is what is accepted of these cases, and no more
-abbrev pub FiledAll : Filing → List Case → Type 0
-FiledAll x cases = HoldsAll x.ops (accepted cases) x.before x.after
+-- A case was reported after those before it, by an output that held this text at first; these ops were put in all. When its text was tried the output
+-- held the report of those, and the disk was in this state: `held` says that there was such a moment. Each byte after these was written later, and from that
+-- state on each image has what is accepted of this case and of those, and some of the first of the rest.
+pub record ReportedAfter (x : Filing) (text : Option (List ℕ)) (put : List Op) (before : List Case) (one : Case) : Type 0 where
+  pub printed : Option (List ℕ)
+  pub disk : DiskView
+  pub begins : Appends text printed (report_front format.Accepting before)
+  pub held : x.held printed disk
+  pub rest : List Op
+  pub split : put ≡ accepted (before ++ one ∷ []) ++ rest
+  pub since : InModel x.before (LeavesOnly (IsAmong (x.ops ++ accepted (before ++ one ∷ [])) rest) disk.history x.after.history)
+
+-- each of these cases was, after those before it
+abbrev pub ReportedInOrder : Filing → Option (List ℕ) → List Op → List Case → List Case → Type 0
+ReportedInOrder x text put before [] = Unit {0}
+ReportedInOrder x text put before (one ∷ cases) = ReportedAfter x text put before one × ReportedInOrder x text put (before ++ one ∷ []) cases
+
+-- On the disk is what is accepted of these cases, and no more. It was there before each of them was reported.
+abbrev pub FiledAll : Filing → Option (List ℕ) → List Case → Type 0
+FiledAll x text cases = HoldsAll x.ops (accepted cases) x.before x.after × ReportedInOrder x text (accepted cases) [] cases
+
+-- So it is, and at the next op the disk failed.
+abbrev pub FiledBut : Filing → Option (List ℕ) → List Case → Op → Type 0
+FiledBut x text cases one = HoldsBut x.ops (accepted cases) one x.before x.after × ReportedInOrder x text (accepted cases ++ one ∷ []) [] cases
 
 -- Why it ended early, and what that leaves from one disk to the other. What was reported is on the disk, and but for the last two no more.
 pub data AcceptLeft {C : Type 0} (o : OneByOne C) (sheet : Contents) (q : Passage C) (x : Filing) (why : RunFault) : Type 0 where
   -- the evaluation of the next field broke off
-  halted : (cases : List Case) → SheetBroke o sheet q.sources q.left cases why → Appends q.text q.written (report_front o.format cases) → FiledAll x cases → AcceptLeft o sheet q x why
+  halted : (cases : List Case) → SheetBroke o sheet q.sources q.left cases why → Appends q.text q.written (report_front o.format cases) → FiledAll x q.text cases → AcceptLeft o sheet q x why
   -- there was no memory for its line, or for what is reported of it
-  unremembered : (cases : List Case) → why ≡ fault.OutOfMemory → SheetLed o sheet q.sources q.left cases → Appends q.text q.written (report_front o.format cases) → FiledAll x cases
+  unremembered : (cases : List Case) → why ≡ fault.OutOfMemory → SheetLed o sheet q.sources q.left cases → Appends q.text q.written (report_front o.format cases) → FiledAll x q.text cases
       → AcceptLeft o sheet q x why
   -- the answer to the last field doesn't fit
   full : (cases : List Case) (last : Case) (one : Op) → why ≡ fault.Host hosts.JournalFull → SheetLed o sheet q.sources q.left (cases ++ last ∷ [])
-      → accepted_of last ≡ one ∷ [] → Appends q.text q.written (report_front o.format cases) → FiledAll x cases → NoPlace one x.after → AcceptLeft o sheet q x why
+      → accepted_of last ≡ one ∷ [] → Appends q.text q.written (report_front o.format cases) → FiledAll x q.text cases → NoPlace one x.after → AcceptLeft o sheet q x why
   -- the disk failed at the answer to the last field
   broken : (cases : List Case) (last : Case) (one : Op) → why ≡ fault.Host hosts.Disk → SheetLed o sheet q.sources q.left (cases ++ last ∷ [])
-      → accepted_of last ≡ one ∷ [] → Appends q.text q.written (report_front o.format cases) → HoldsBut x.ops (accepted cases) one x.before x.after → AcceptLeft o sheet q x why
+      → accepted_of last ≡ one ∷ [] → Appends q.text q.written (report_front o.format cases) → FiledBut x q.text cases one → AcceptLeft o sheet q x why
   -- the writer failed at the text of the last field, or at the counts
-  unwritten : (cases : List Case) → why ≡ fault.Output → SheetLed o sheet q.sources q.left cases → FiledAll x cases → AcceptLeft o sheet q x why
+  unwritten : (cases : List Case) → why ≡ fault.Output → SheetLed o sheet q.sources q.left cases → FiledAll x q.text cases → AcceptLeft o sheet q x why
 
 -- What becomes of the check of a worksheet whose answers that differ or are new are accepted: the report of them is written, and exactly those
 -- answers are put after its ops. A lack of memory may be reported before the copy is there.
 abbrev pub SheetAccepts : {C : Type 0} → OneByOne C → Contents → Passage C → Type 0 → Filing → Result Counts RunFault → Type 0
-SheetAccepts o sheet q nothing x (Ok counts) = (checked : SheetChecked o sheet q counts) × FiledAll x checked.cases
-SheetAccepts o sheet q nothing x (Err why) = ((why ≡ fault.OutOfMemory) × nothing × FiledAll x []) ⊎ AcceptLeft o sheet q x why
+SheetAccepts o sheet q nothing x (Ok counts) = (checked : SheetChecked o sheet q counts) × FiledAll x q.text checked.cases
+SheetAccepts o sheet q nothing x (Err why) = ((why ≡ fault.OutOfMemory) × nothing × FiledAll x q.text []) ⊎ AcceptLeft o sheet q x why
+
+-- The disk of an acceptance before it and after it, and what its output held while a disk was in which state.
+pub record Acceptance : Type 1 where
+  pub held : Option (List ℕ) → DiskView → Type 0
+  pub disk : DiskView
+  pub back : DiskView
+
+abbrev pub acceptance : (Option (List ℕ) → DiskView → Type 0) → DiskView → DiskView → Acceptance
+acceptance held disk back = record { held = held; disk = disk; back = back }
 
 -- What is answered: that the disk wasn't opened, where nothing was done and no byte of it was changed; that the worksheet on it lacks a field that
 -- is named, where nothing was done and the disk is as it was found; or what becomes of that worksheet.
-pub data AcceptAnswer {C : Type 0} (o : OneByOne C) (disk back : DiskView) (q : Passage C) (nothing : Type 0) (answer : Result Counts CheckFault) : Type 0 where
-  unopened : (why : OpenCause) → answer ≡ Err (checks.Run (fault.Open why)) → nothing → InModel disk (TellsOfSheet (bytes_on disk) why) → OnlyRead disk back
-      → AcceptAnswer o disk back q nothing answer
-  opened : (sheet : Contents) (ops : List Op) (now : DiskView) → FoundOn disk sheet ops now
-      → ByNames (missing_named o.chosen sheet.fields) (nothing × (back ≡ now)) (SheetAccepts o sheet q nothing (filing ops now back)) answer
-      → AcceptAnswer o disk back q nothing answer
+pub data AcceptAnswer {C : Type 0} (o : OneByOne C) (x : Acceptance) (q : Passage C) (nothing : Type 0) (answer : Result Counts CheckFault) : Type 0 where
+  unopened : (why : OpenCause) → answer ≡ Err (checks.Run (fault.Open why)) → nothing → InModel x.disk (TellsOfSheet (bytes_on x.disk) why) → OnlyRead x.disk x.back
+      → AcceptAnswer o x q nothing answer
+  opened : (sheet : Contents) (ops : List Op) (now : DiskView) → FoundOn x.disk sheet ops now
+      → ByNames (missing_named o.chosen sheet.fields) (nothing × (x.back ≡ now)) (SheetAccepts o sheet q nothing (filing x.held ops now x.back)) answer
+      → AcceptAnswer o x q nothing answer

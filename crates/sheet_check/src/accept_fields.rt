@@ -10,13 +10,14 @@ ghost use Rattle.child_edge.specs.Faithful.{at};
 ghost use Rattle.sheet_check.specs.Kept.{Stores};
 ghost use Rattle.offline_programs.specs.declared.fault.RunFault.TheVariants as reported;
 ghost use Rattle.journal.specs.declared.opening.OpenCause.TheVariants as opens;
+ghost use Rattle.check_report.specs.Chosen.{is_chosen};
 ghost use Rattle.check_report.specs.Verdicts.{total};
 ghost use Rattle.check_report.specs.declared.report.Format.TheVariants as formats;
-ghost use Rattle.sheet_check.specs.Accept.{AcceptAnswer, AcceptLeft, SheetAccepts, accepted, accepting_by, filing};
+ghost use Rattle.sheet_check.specs.Accept.{AcceptAnswer, AcceptLeft, FiledAll, SheetAccepts, acceptance, accepted, accepting_by, filing};
 ghost use Rattle.sheet_check.specs.Check.{IsCopy, passage};
 ghost use Rattle.sheet_check.specs.declared.named.CheckFault.TheVariants as named;
 ghost use Rattle.sheet_check.specs.Progress.{CheckShows, FieldsLeft, FieldsShow, LeavesLine, SheetShows, checked_count, display};
-ghost use Rattle.sheet_check.specs.inside.Accepting.{FieldBroke, FieldsBroke, FieldsTook, GoesOn, OnCopy, PutAll, storing};
+ghost use Rattle.sheet_check.specs.inside.Accepting.{FieldBroke, FieldsBroke, FieldsTook, GoesOn, OnCopy, Puts, StampedSo, putting};
 ghost use Rattle.sheet_check.specs.inside.Checking.{FieldShown, FieldWrote, FieldsEnded};
 ghost use Rattle.live.specs.Records.{left};
 
@@ -34,13 +35,13 @@ use arrivals::Sources;
 use check_report::{Counts, Format};
 use child_edge::stop_all;
 use disk_model::Disk;
+use driver::Stamped;
 use journal::OpenFault;
 use offline_programs::RunFault;
 use recovery::{Store, one_sheet};
-use std::io::Write;
 
 /// Checks a field, where it is one of those that are, and accepts what came where it differs or is new. The counts with what that came to, which are shown.
-fn accept_field<D: Disk, S: Disk, C: Sources, W: Write, P: Progress>(
+fn accept_field<D: Disk, S: Disk, C: Sources, W: Stamped, P: Progress>(
     place: &FieldPlace<'_>,
     driver: &mut CopyDriver<D, C>,
     store: &mut Store<S>,
@@ -53,21 +54,21 @@ fn accept_field<D: Disk, S: Disk, C: Sources, W: Write, P: Progress>(
     requires open { store.old.closed ≡ false }
     requires there { has_field store.old.sheet.contents place.now.field.now.id ≡ true }
     ensures written { store.old.gathers ≡ false → store.new.gathers ≡ false }
-    ensures ok { (w : World) → IsHost driver.old.host w → (ops more : List Op) → (disk : DiskView)
-        → Stores ops more disk store.old → IfOk result (λ after. (wrote : FieldWrote
+    ensures ok { (w : World) → IsHost driver.old.host w → IfOk result (λ after. (wrote : FieldWrote
         (accepting_by C.after C.clock C.wakes place.now.manner.request.now)
         place.now.field.now (at w driver.old.sources driver.old.host.store.disk)
         (left driver.new.host driver.new.sources (W.contents writer.old) (W.contents writer.new))
         place.now.counts after)
-        × PutAll (storing ops more disk store.new) (accepted wrote.0)) }
+        × Puts (putting store.old store.new) (accepted wrote.0)) }
     ensures bound { IfOk result (λ after. total after ≤ total place.now.counts + 1) }
     ensures errors { IfOk result (λ after. after.errors ≤ total after) }
-    ensures err { (w : World) → IsHost driver.old.host w → (ops more : List Op) → (disk : DiskView)
-        → Stores ops more disk store.old → IfErr result (FieldBroke
+    ensures err { (w : World) → IsHost driver.old.host w → IfErr result (FieldBroke
         (accepting_by C.after C.clock C.wakes place.now.manner.request.now)
         place.now.field.now (at w driver.old.sources driver.old.host.store.disk)
         (left driver.new.host driver.new.sources (W.contents writer.old) (W.contents writer.new))
-        (storing ops more disk store.new)) }
+        (putting store.old store.new)) }
+    ensures stamped { is_chosen place.now.manner.request.now.chosen place.now.field.now ≡ true
+        → StampedSo W.held (W.contents writer.old) store.new.disk result }
     ensures shown { IfOk result (λ after.
         FieldShown (display formats.Accepting P.shows) place.now.all place.now.counts after
         progress.old progress.new) }
@@ -83,7 +84,7 @@ fn accept_field<D: Disk, S: Disk, C: Sources, W: Write, P: Progress>(
 }
 
 /// Checks the fields of a worksheet in their order, and accepts the answers that differ or are new.
-fn accept_fields<D: Disk, S: Disk, C: Sources, W: Write, P: Progress>(
+fn accept_fields<D: Disk, S: Disk, C: Sources, W: Stamped, P: Progress>(
     suite: &Suite<'_>,
     driver: &mut CopyDriver<D, C>,
     store: &mut Store<S>,
@@ -99,13 +100,13 @@ fn accept_fields<D: Disk, S: Disk, C: Sources, W: Write, P: Progress>(
         (accepting_by C.after C.clock C.wakes suite.now.manner.request.now)
         suite.now.sheet.now.contents.fields (at w driver.old.sources driver.old.host.store.disk)
         (left driver.new.host driver.new.sources (W.contents writer.old) (W.contents writer.new))
-        (storing ops [] disk store.new)) }
+        (filing W.held ops disk store.new.disk)) }
     ensures err { (w : World) → IsHost driver.old.host w → (ops : List Op) → (disk : DiskView)
         → Stores ops [] disk store.old → IfErr result (FieldsBroke
         (accepting_by C.after C.clock C.wakes suite.now.manner.request.now)
         suite.now.sheet.now.contents.fields (at w driver.old.sources driver.old.host.store.disk)
         (left driver.new.host driver.new.sources (W.contents writer.old) (W.contents writer.new))
-        (storing ops [] disk store.new)) }
+        (filing W.held ops disk store.new.disk)) }
     ensures shown { IfOk result (λ counts.
         FieldsShow (display formats.Accepting P.shows)
         (checked_count suite.now.manner.request.now.chosen suite.now.sheet.now.contents.fields)
@@ -134,7 +135,7 @@ fn accept_fields<D: Disk, S: Disk, C: Sources, W: Write, P: Progress>(
 }
 
 /// Checks the fields and accepts answers, takes the line of progress away, and stops each life that goes on.
-fn accept_and_stop<D: Disk, S: Disk, C: Sources, W: Write, P: Progress>(
+fn accept_and_stop<D: Disk, S: Disk, C: Sources, W: Stamped, P: Progress>(
     suite: &Suite<'_>,
     driver: &mut CopyDriver<D, C>,
     store: &mut Store<S>,
@@ -151,7 +152,7 @@ fn accept_and_stop<D: Disk, S: Disk, C: Sources, W: Write, P: Progress>(
         suite.now.sheet.now.contents.fields w driver.old.host.store.disk
         (passage driver.old.sources driver.new.sources (W.contents writer.old)
         (W.contents writer.new)) counts)
-        × PutAll (storing ops [] disk store.new) (accepted ended.0)) }
+        × FiledAll (filing W.held ops disk store.new.disk) (W.contents writer.old) ended.0) }
     ensures err { (w : World) → IsHost driver.old.host w
         → IsCopy suite.now.sheet.now.contents w driver.old.host.store.disk
         → (ops : List Op) → (disk : DiskView) → Stores ops [] disk store.old
@@ -159,7 +160,7 @@ fn accept_and_stop<D: Disk, S: Disk, C: Sources, W: Write, P: Progress>(
         (accepting_by C.after C.clock C.wakes suite.now.manner.request.now)
         suite.now.sheet.now.contents
         (passage driver.old.sources driver.new.sources (W.contents writer.old)
-        (W.contents writer.new)) (filing ops disk store.new.disk)) }
+        (W.contents writer.new)) (filing W.held ops disk store.new.disk)) }
     ensures shown { SheetShows (display formats.Accepting P.shows)
         (checked_count suite.now.manner.request.now.chosen suite.now.sheet.now.contents.fields)
         progress.old progress.new result }
@@ -172,7 +173,7 @@ fn accept_and_stop<D: Disk, S: Disk, C: Sources, W: Write, P: Progress>(
 
 /// Checks a worksheet on a copy of it, and accepts the answers that differ or are new in the store, which had
 /// the same. None where there is no memory for the copy.
-fn accepted_on_copy<S: Disk, C: Sources, W: Write, P: Progress>(
+fn accepted_on_copy<S: Disk, C: Sources, W: Stamped, P: Progress>(
     suite: &Suite<'_>,
     sources: C,
     store: &mut Store<S>,
@@ -190,7 +191,7 @@ fn accepted_on_copy<S: Disk, C: Sources, W: Write, P: Progress>(
         (accepting_by C.after C.clock C.wakes suite.now.manner.request.now)
         suite.now.sheet.now.contents
         (passage sources result.sources (W.contents writer.old) (W.contents writer.new))
-        (storing ops [] disk store.new)) }
+        (filing W.held ops disk store.new.disk)) }
     ensures shown { IfSome result.answer (λ counted. SheetShows (display formats.Accepting P.shows)
         (checked_count suite.now.manner.request.now.chosen suite.now.sheet.now.contents.fields)
         progress.old progress.new counted) }
@@ -211,7 +212,7 @@ fn accepted_on_copy<S: Disk, C: Sources, W: Write, P: Progress>(
 
 /// Checks the worksheet of a store on a copy of it, accepts answers in the store, and compares with a second copy, which stays as the
 /// worksheet was. None where there is no memory for the copies.
-fn accepted_on_copies<S: Disk, C: Sources, W: Write, P: Progress>(
+fn accepted_on_copies<S: Disk, C: Sources, W: Stamped, P: Progress>(
     manner: &Manner<'_>,
     sources: C,
     store: &mut Store<S>,
@@ -229,7 +230,7 @@ fn accepted_on_copies<S: Disk, C: Sources, W: Write, P: Progress>(
         (accepting_by C.after C.clock C.wakes manner.now.request.now)
         store.old.sheet.contents
         (passage sources result.sources (W.contents writer.old) (W.contents writer.new))
-        (storing ops [] disk store.new)) }
+        (filing W.held ops disk store.new.disk)) }
     ensures shown { IfSome result.answer (λ counted. SheetShows (display formats.Accepting P.shows)
         (checked_count manner.now.request.now.chosen store.old.sheet.contents.fields)
         progress.old progress.new counted) }
@@ -251,7 +252,7 @@ fn accepted_on_copies<S: Disk, C: Sources, W: Write, P: Progress>(
 }
 
 /// Checks the worksheet of a store, accepts the answers that differ or are new, and tells the counts.
-pub(crate) fn accept_sheet<S: Disk, C: Sources, W: Write, P: Progress>(
+pub(crate) fn accept_sheet<S: Disk, C: Sources, W: Stamped, P: Progress>(
     manner: &Manner<'_>,
     sources: C,
     store: &mut Store<S>,
@@ -267,7 +268,7 @@ pub(crate) fn accept_sheet<S: Disk, C: Sources, W: Write, P: Progress>(
         store.old.sheet.contents
         (passage sources result.sources (W.contents writer.old) (W.contents writer.new))
         ((writer.new ≡ writer.old) × (result.sources ≡ sources))
-        (filing ops disk store.new.disk) result.answer }
+        (filing W.held ops disk store.new.disk) result.answer }
     ensures shown { SheetShows (display formats.Accepting P.shows)
         (checked_count manner.now.request.now.chosen store.old.sheet.contents.fields)
         progress.old progress.new result.answer }
@@ -291,7 +292,7 @@ pub(crate) fn accept_sheet<S: Disk, C: Sources, W: Write, P: Progress>(
 /// on the disk, or on that of the copy; `Host(Disk)` where the disk failed: one answer more than was reported
 /// may be on it. `Output` where the writer fails: the same. `OutOfMemory`, `Host` of another fault of the copy's
 /// host, and `Input` and `InputTooLong` as of `check`: what was reported is on the disk, and no more.
-pub fn check_accepting<D: Disk, C: Sources, W: Write, P: Progress>(
+pub fn check_accepting<D: Disk, C: Sources, W: Stamped, P: Progress>(
     manner: &Manner<'_>,
     disk: D,
     sources: C,
@@ -300,7 +301,7 @@ pub fn check_accepting<D: Disk, C: Sources, W: Write, P: Progress>(
 ) -> Checked<D, C>
     ensures accepted { AcceptAnswer
         (accepting_by C.after C.clock C.wakes manner.now.request.now)
-        (D.view disk) (D.view result.disk)
+        (acceptance W.held (D.view disk) (D.view result.disk))
         (passage sources result.sources (W.contents writer.old) (W.contents writer.new))
         ((writer.new ≡ writer.old) × (result.sources ≡ sources)) result.answer }
 

@@ -15,7 +15,7 @@ ghost use Rattle.check_report.specs.declared.report.Format.TheVariants as format
 ghost use Rattle.sheet_check.specs.Accept.{accepted_answer, accepting_by, answer_ops};
 ghost use Rattle.sheet_check.specs.Evaluated.{came_if, reason_shown_in, shown_in};
 ghost use Rattle.sheet_check.specs.Progress.{LeavesLine, MakesRoom};
-ghost use Rattle.sheet_check.specs.inside.Accepting.{FieldBroke, Finds, NotPut, NotTaken, ShownTook, fault_of_acceptance, storing};
+ghost use Rattle.sheet_check.specs.inside.Accepting.{FieldBroke, Finds, NotPut, NotTaken, Puts, ShownTook, StampedSo, fault_of_acceptance, putting, storing};
 ghost use Rattle.sheet_check.specs.inside.Checking.{question};
 
 use crate::accept::{PutFault, accept};
@@ -30,6 +30,7 @@ use check_report::{
     Chosen, Format, Judgement, Verdict, acceptance_in_memory, brings_error, write_and_flush,
 };
 use disk_model::Disk;
+use driver::Stamped;
 use host_events::HostFault;
 use offline_programs::RunFault;
 use recovery::Store;
@@ -169,7 +170,7 @@ fn tell<W: Write, P: Progress>(
 }
 
 /// Accepts what a field came to, and then tells it.
-fn take<D: Disk, W: Write, P: Progress>(
+fn take<D: Disk, W: Stamped, P: Progress>(
     store: &mut Store<D>,
     id: u32,
     found: Finding,
@@ -180,13 +181,12 @@ fn take<D: Disk, W: Write, P: Progress>(
     requires there { has_field store.old.sheet.contents id ≡ true }
     requires short { HasShortPrompt found.answer }
     ensures written { store.old.gathers ≡ false → store.new.gathers ≡ false }
-    ensures ok { (ops more : List Op) → (disk : DiskView) → Stores ops more disk store.old
-        → IfOk result (λ j. (j ≡ found.judgement)
-        × Stores ops (more ++ answer_ops id found.answer) disk store.new
+    ensures ok { IfOk result (λ j. (j ≡ found.judgement)
+        × Puts (putting store.old store.new) (answer_ops id found.answer)
         × Appends (W.contents writer.old) (W.contents writer.new) found.text.items) }
-    ensures err { (ops more : List Op) → (disk : DiskView) → Stores ops more disk store.old
-        → IfErr result (NotTaken (storing ops more disk store.new) (answer_ops id found.answer)
+    ensures err { IfErr result (NotTaken (putting store.old store.new) (answer_ops id found.answer)
         (W.contents writer.old) (W.contents writer.new)) }
+    ensures stamped { StampedSo W.held (W.contents writer.old) store.new.disk result }
     ensures room { IfOk result (λ j.
         MakesRoom formats.Accepting P.shows j.verdict progress.old progress.new) }
     ensures left { IfErr result (λ _. LeavesLine P.shows progress.old progress.new) }
@@ -200,6 +200,7 @@ fn take<D: Disk, W: Write, P: Progress>(
         Ok(()) => (),
         Err(why) => return Err(accept_fault(why)),
     }
+    writer.stamp_store(store);
     match tell(judgement.verdict, text.as_slice(), progress, writer) {
         Ok(()) => Ok(judgement),
         Err(fault) => Err(fault),
@@ -207,7 +208,7 @@ fn take<D: Disk, W: Write, P: Progress>(
 }
 
 /// Evaluates a field that is checked, and accepts and tells what that came to.
-pub(crate) fn accept_shown<D: Disk, S: Disk, C: Sources, W: Write, P: Progress>(
+pub(crate) fn accept_shown<D: Disk, S: Disk, C: Sources, W: Stamped, P: Progress>(
     place: &FieldPlace<'_>,
     driver: &mut CopyDriver<D, C>,
     store: &mut Store<S>,
@@ -219,18 +220,17 @@ pub(crate) fn accept_shown<D: Disk, S: Disk, C: Sources, W: Write, P: Progress>(
     requires open { store.old.closed ≡ false }
     requires there { has_field store.old.sheet.contents place.now.field.now.id ≡ true }
     ensures written { store.old.gathers ≡ false → store.new.gathers ≡ false }
-    ensures ok { (w : World) → IsHost driver.old.host w → (ops more : List Op) → (disk : DiskView)
-        → Stores ops more disk store.old → IfOk result (ShownTook
+    ensures ok { (w : World) → IsHost driver.old.host w → IfOk result (ShownTook
         (accepting_by C.after C.clock C.wakes place.now.manner.request.now)
         (question 0 place.now.field.now) (at w driver.old.sources driver.old.host.store.disk)
         (left driver.new.host driver.new.sources (W.contents writer.old) (W.contents writer.new))
-        (storing ops more disk store.new)) }
-    ensures err { (w : World) → IsHost driver.old.host w → (ops more : List Op) → (disk : DiskView)
-        → Stores ops more disk store.old → IfErr result (FieldBroke
+        (putting store.old store.new)) }
+    ensures err { (w : World) → IsHost driver.old.host w → IfErr result (FieldBroke
         (accepting_by C.after C.clock C.wakes place.now.manner.request.now)
         place.now.field.now (at w driver.old.sources driver.old.host.store.disk)
         (left driver.new.host driver.new.sources (W.contents writer.old) (W.contents writer.new))
-        (storing ops more disk store.new)) }
+        (putting store.old store.new)) }
+    ensures stamped { StampedSo W.held (W.contents writer.old) store.new.disk result }
     ensures room { IfOk result (λ j.
         MakesRoom formats.Accepting P.shows j.verdict progress.old progress.new) }
     ensures left { IfErr result (λ _. LeavesLine P.shows progress.old progress.new) }

@@ -24,6 +24,7 @@ use crate::together::check_by_sessions;
 use arrivals::Sources;
 use check_report::{Chosen, Counts, Ids};
 use disk_model::Disk;
+use driver::Stamped;
 use offline_programs::RunFault;
 use recovery::Store;
 use std::io::Write;
@@ -191,7 +192,7 @@ pub(crate) fn check_named_together<C: Sources, W: Write, P: Progress>(
 }
 
 /// Checks the worksheet of a store, where it has the fields that are named, and accepts the answers that differ or are new.
-pub(crate) fn accept_named<S: Disk, C: Sources, W: Write, P: Progress>(
+pub(crate) fn accept_named<S: Disk, C: Sources, W: Stamped, P: Progress>(
     manner: &Manner<'_>,
     sources: C,
     store: &mut Store<S>,
@@ -208,7 +209,7 @@ pub(crate) fn accept_named<S: Disk, C: Sources, W: Write, P: Progress>(
         (accepting_by C.after C.clock C.wakes manner.now.request.now)
         store.old.sheet.contents
         (passage sources result.sources (W.contents writer.old) (W.contents writer.new))
-        ((writer.new ≡ writer.old) × (result.sources ≡ sources)) (filing ops disk store.new.disk))
+        ((writer.new ≡ writer.old) × (result.sources ≡ sources)) (filing W.held ops disk store.new.disk))
         result.answer }
     ensures shown { ByNames (missing_named manner.now.request.now.chosen
         store.old.sheet.contents.fields)

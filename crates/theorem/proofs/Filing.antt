@@ -1,7 +1,6 @@
 -- What all acts leave, and where an answer came from.
 use Rattle.std.proofs.Common.{◌≡◌, ◌∙◌, ◌⊎◌, inl, inr, ⊎_elim, ℕ, List, [], ◌∷◌, ◌++◌, refl, ap, sym, subst, append-nil, append_assoc, IsTrue, Some, None}
-use Rattle.disk_model.specs.Disk.{DiskView, Image, InModel, Leaves}
-use Rattle.disk_model.specs.inside.Moments.{started}
+use Rattle.disk_model.specs.Disk.{DiskView, History, Image, InModel, LeavesOnly}
 use Rattle.worksheet.specs.declared.op.Op.{Op}
 use Rattle.worksheet.specs.declared.op.Op.TheVariants as op
 use Rattle.worksheet.specs.declared.field.Field.{Field}
@@ -15,7 +14,7 @@ use Rattle.recovery.specs.Sheets.{IsSheetImage}
 use Rattle.recovery.specs.Laws.{OneSheet}
 use Rattle.host_laws.specs.Turns.{Has, HostsInTurn}
 use Rattle.theorem.specs.Story.{CrashedSince}
-use Rattle.theorem.specs.Acts.{Act, AreAnswers, CameIn, Did, Files, HasFirst, KeepFieldOn, PutAfter, StaysIn, Uses, WasPut, no_use, turns_of, filing, has_filed, nothing_done, by_hosts, by_filing}
+use Rattle.theorem.specs.Acts.{Act, AreAnswers, CameIn, Did, Files, HasFirst, KeepFieldOn, PutAfter, StaysIn, Uses, WasPut, no_use, turns_of, filing, nothing_done, by_hosts, by_filing}
 use Rattle.host_laws.proofs.FieldLaws.{by_op}
 use Rattle.theorem.proofs.Reported.{at_crash}
 use Rattle.theorem.proofs.Visits.{invocations_left}
@@ -100,12 +99,8 @@ module _ (before : Image) (sheet : Contents) (image : IsSheetImage sheet before)
         among.image,
       )
 
-  pub was_filing : CrashedSince f.now.history back.history mid → Filed []
-  was_filing crashed = some_put [] (at_crash (HasFirst ops put []) f.now.history back.history mid (f.moments model) crashed)
-
-  pub all_filed : (reported : List Op) → InModel f.now (Leaves (HasFirst ops put reported) back.history.now) → CrashedSince back.history back.history mid → Filed reported
-  all_filed reported holds crashed =
-      some_put reported (at_crash (HasFirst ops put reported) back.history back.history mid (started (HasFirst ops put reported) back.history (holds model)) crashed)
+  pub was_filing : (reported : List Op) (since : History) → InModel f.now (LeavesOnly (HasFirst ops put reported) since back.history) → CrashedSince since back.history mid → Filed reported
+  was_filing reported since holds crashed = some_put reported (at_crash (HasFirst ops put reported) since back.history mid (holds model) crashed)
 
 -- What all acts left: from a worksheet, however it was made, to another.
 pub record AllDid (room : ℕ) (before : Image) (sheet : Contents) (acts : List Act) (after : Image) : Type 0 where
@@ -120,12 +115,8 @@ all_did hosts one room before sheet acts after image (turns_of {mid = mid} {turn
     let l = invocations_left hosts room image.ops before mid turns image.makes.allowed (subst (λ (s : Contents). IsSheetImage s before) image.makes.is image) invocations in
     let rest = all_did hosts one room mid (sheet_of l.kept) others after l.image more in
     record { last = rest.last; did = by_hosts image.ops image.makes.is l refl rest.did; image = rest.image }
-all_did hosts one room before sheet acts after image (filing {mid = mid} {put = put} {acts = others} disk back ops files crashed more) =
-    let left = was_filing before sheet image one mid disk back ops put files crashed in
-    let rest = all_did hosts one room mid left.0 others after left.2 more in
-    record { last = rest.last; did = by_filing left.1 left.2 rest.did; image = rest.image }
-all_did hosts one room before sheet acts after image (has_filed {mid = mid} {put = put} {reported = reported} {acts = others} disk back ops files holds crashed more) =
-    let left = all_filed before sheet image one mid disk back ops put files reported holds crashed in
+all_did hosts one room before sheet acts after image (filing {mid = mid} {put = put} {reported = reported} {acts = others} disk back ops files since holds crashed more) =
+    let left = was_filing before sheet image one mid disk back ops put files reported since holds crashed in
     let rest = all_did hosts one room mid left.0 others after left.2 more in
     record { last = rest.last; did = by_filing left.1 left.2 rest.did; image = rest.image }
 

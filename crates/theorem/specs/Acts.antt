@@ -2,7 +2,7 @@
 -- (docs/trust/THEOREM.md; premises A1 to A7 in README.md.)
 use Rattle.std.specs.Prelude.{◌≡◌, ◌⊎◌, ℕ, IsTrue, List, [], ◌∷◌, ◌++◌, Some, Result}
 use Rattle.block_tree.specs.Tree.{Tree}
-use Rattle.disk_model.specs.Disk.{DiskView, Image, InModel, Leaves, LeavesOnly, SameDisk, bytes_on}
+use Rattle.disk_model.specs.Disk.{DiskView, History, Image, InModel, LeavesOnly, SameDisk, bytes_on}
 use Rattle.journal.specs.declared.journal.OpenFault.{OpenFault}
 use Rattle.worksheet.specs.declared.op.Op.{Op}
 use Rattle.worksheet.specs.declared.op.Op.TheVariants as op
@@ -54,17 +54,15 @@ pub record Files (before : Image) (disk : DiskView) (ops more : List Op) (back :
   pub same : SameDisk disk now
   pub moments : InModel now (LeavesOnly (HasFirst ops more []) now.history back.history)
 
--- Invocations of the program on the same files, one after another: those that have hosts or make reads alone, and acceptances between them. In
--- one that is cut off (A5), what it reported by then isn't known. At the end of one that wasn't, each image has all that it reported.
+-- Invocations of the program on the same files, one after another: those that have hosts or make reads alone, and acceptances between them. Where
+-- one is cut off (A5), from some earlier moment on each image has all that it had reported (A6); so where it ends.
 pub data Uses (room : ℕ) : Image → List Act → Image → Type 0 where
   no_use : {at : Image} → Uses room at [] at
   turns_of : {before mid after : Image} {turns : List HostTurn} {acts : List Act} → Invocations room before turns mid → Uses room mid acts after
       → Uses room before (hosted turns ∷ acts) after
-  filing : {before mid after : Image} {put : List Op} {acts : List Act} (disk back : DiskView) (ops : List Op) → (f : Files before disk ops put back)
-      → CrashedSince f.now.history back.history mid → Uses room mid acts after → Uses room before (filed put [] ∷ acts) after
-  has_filed : {before mid after : Image} {put reported : List Op} {acts : List Act} (disk back : DiskView) (ops : List Op) → (f : Files before disk ops put back)
-      → InModel f.now (Leaves (HasFirst ops put reported) back.history.now)
-      → CrashedSince back.history back.history mid → Uses room mid acts after → Uses room before (filed put reported ∷ acts) after
+  filing : {before mid after : Image} {put reported : List Op} {acts : List Act} (disk back : DiskView) (ops : List Op) → (f : Files before disk ops put back)
+      → (since : History) → InModel f.now (LeavesOnly (HasFirst ops put reported) since back.history)
+      → CrashedSince since back.history mid → Uses room mid acts after → Uses room before (filed put reported ∷ acts) after
 
 -- Some of the first of these ops were put after a worksheet, all of them that were reported. Each of them put an answer into a field.
 pub record PutAfter (before : Contents) (put reported : List Op) (after : Contents) : Type 0 where

@@ -7,5 +7,5 @@ use Rattle.driver_visits.proofs.acceptances_are_filed.Goals as goal
 
 pub returns : goal.returns
 returns g c = λ limit chosen disk back from to a b answer model is.
-    acceptance_filed (way g.S.Children.after g.S.Sources.clock g.S.Sources.wakes limit) chosen disk back from to (g.W.Write.contents a) (g.W.Write.contents b) ((b ≡ a) × (to ≡ from))
+    acceptance_filed (way g.S.Children.after g.S.Sources.clock g.S.Sources.wakes limit) chosen g.W.Stamped.held disk back from to (g.W.Write.contents a) (g.W.Write.contents b) ((b ≡ a) × (to ≡ from))
     (λ none. subst (λ (x : Option (List ℕ)). Appends (g.W.Write.contents a) x []) (sym (ap g.W.Write.contents none.0)) (Appends-nil (g.W.Write.contents a))) answer model is

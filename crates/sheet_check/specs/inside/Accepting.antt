@@ -1,5 +1,5 @@
 -- What the functions of a check that accepts answers promise each other. No public contract names this.
-use Rattle.std.specs.Prelude.{◌≡◌, ℕ, List, [], ◌∷◌, ◌++◌, Option, Result, IfOk, IfErr, Some}
+use Rattle.std.specs.Prelude.{◌≡◌, ℕ, List, [], ◌∷◌, ◌++◌, Option, Result, Ok, Err, IfOk, IfErr, Some}
 use Rattle.std.specs.Io.KnownBytes.{Appends}
 use Rattle.disk_model.specs.Disk.{DiskView}
 use Rattle.block_tree.specs.declared.reason.Reason.{Reason}
@@ -29,7 +29,7 @@ use Rattle.live.specs.Records.{Left}
 use Rattle.sheet_check.specs.Evaluated.{OneByOne, reason_shown_in}
 use Rattle.sheet_check.specs.Fields.{FieldChecked, FieldsChecked}
 use Rattle.sheet_check.specs.Check.{IsCopy, Passage}
-use Rattle.sheet_check.specs.Accept.{AcceptLeft, accepted, accepted_answer, accepted_of, filing}
+use Rattle.sheet_check.specs.Accept.{AcceptLeft, FiledAll, FiledBut, Filing, accepted, accepted_answer, accepted_of}
 use Rattle.sheet_check.specs.declared.accept_shown.Finding.{Finding}
 use Rattle.sheet_check.specs.inside.Checking.{FieldFailed, FieldsEnded, FieldsFailed, FieldsWrote, Question, ShownWrote}
 
@@ -70,13 +70,35 @@ NotPut x ones refused.Full = (one : Op) × (ones ≡ one ∷ []) × PutNone x ×
 NotPut x ones refused.OutOfMemory = PutNone x
 NotPut x ones refused.Disk = (one : Op) × (ones ≡ one ∷ []) × HoldsBut x.ops x.more one x.disk x.store.disk
 
--- What a fault leaves where these are to be put after the others, and a text is to be written: nothing of either, or the disk failed, or
--- the writer did.
-pub data NotTaken (x : Storing) (ones : List Op) (a b : Option (List ℕ)) (why : RunFault) : Type 0 where
-  full : (one : Op) → why ≡ fault.Host hosts.JournalFull → ones ≡ one ∷ [] → PutNone x → NoPlace one x.store.disk → b ≡ a → NotTaken x ones a b why
-  broken : (one : Op) → why ≡ fault.Host hosts.Disk → ones ≡ one ∷ [] → HoldsBut x.ops x.more one x.disk x.store.disk → b ≡ a → NotTaken x ones a b why
-  unremembered : why ≡ fault.OutOfMemory → PutNone x → b ≡ a → NotTaken x ones a b why
-  unwritten : why ≡ fault.Output → PutAll x ones → NotTaken x ones a b why
+-- a store before something was put in it, and after
+pub record Putting : Type 0 where
+  pub old : StoreView
+  pub new : StoreView
+
+abbrev pub putting : StoreView → StoreView → Putting
+putting old new = record { old = old; new = new }
+
+-- this is so whatever had been put in the store, and since whenever
+abbrev pub Whatever : Putting → (Storing → Type 0) → Type 0
+Whatever y P = (ops more : List Op) (disk : DiskView) → Stores ops more disk y.old → P (storing ops more disk y.new)
+
+-- these were put
+abbrev pub Puts : Putting → List Op → Type 0
+Puts y ones = Whatever y (λ x. PutAll x ones)
+
+-- nothing was
+abbrev pub PutsNothing : Putting → Type 0
+PutsNothing y = Whatever y PutNone
+
+-- What a fault leaves where these are to be put, and a text is to be written: they weren't put, and nothing was written; or the writer failed.
+pub data NotTaken (y : Putting) (ones : List Op) (a b : Option (List ℕ)) (why : RunFault) : Type 0 where
+  not_put : (cause : PutFault) → why ≡ fault_of_acceptance cause → Whatever y (λ x. NotPut x ones cause) → b ≡ a → NotTaken y ones a b why
+  unwritten : why ≡ fault.Output → Puts y ones → NotTaken y ones a b why
+
+-- A text was tried by now, or is known not to be: then the output held these bytes while the disk was in this state.
+abbrev pub StampedSo : {T : Type 0} → (Option (List ℕ) → DiskView → Type 0) → Option (List ℕ) → DiskView → Result T RunFault → Type 0
+StampedSo held text disk (Ok done) = held text disk
+StampedSo held text disk (Err why) = why ≡ fault.Output → held text disk
 
 -- A store goes on after the ops of this worksheet and what was accepted of some fields.
 pub record GoesOn (sheet : Contents) (store : StoreView) : Type 0 where
@@ -87,25 +109,25 @@ pub record GoesOn (sheet : Contents) (store : StoreView) : Type 0 where
   pub stores : Stores ops (accepted cases) disk store
 
 -- A field was checked, what is to be reported is written, and what is accepted of it was put.
-abbrev pub ShownTook : {C : Type 0} → OneByOne C → Question → At C → Left C → Storing → Judgement → Type 0
-ShownTook o one s l x j = (wrote : ShownWrote o one s l j) × PutAll x (accepted_of (case one.field wrote.0 (reason_shown_in wrote.1 one.field.id) j.verdict (Some wrote.2)))
+abbrev pub ShownTook : {C : Type 0} → OneByOne C → Question → At C → Left C → Putting → Judgement → Type 0
+ShownTook o one s l y j = (wrote : ShownWrote o one s l j) × Puts y (accepted_of (case one.field wrote.0 (reason_shown_in wrote.1 one.field.id) j.verdict (Some wrote.2)))
 
--- the same of fields
-abbrev pub FieldsTook : {C : Type 0} → OneByOne C → List Field → At C → Left C → Storing → Counts → Type 0
-FieldsTook o fields s l x counts = (wrote : FieldsWrote o fields s l counts) × PutAll x (accepted wrote.0)
+-- the same of fields, from a disk to another
+abbrev pub FieldsTook : {C : Type 0} → OneByOne C → List Field → At C → Left C → Filing → Counts → Type 0
+FieldsTook o fields s l x counts = (wrote : FieldsWrote o fields s l counts) × FiledAll x l.out wrote.0
 
 -- a field was checked, and this is its case
 abbrev pub FieldLast : {C : Type 0} → OneByOne C → Field → At C → HostView → C → Case → Type 0
 FieldLast o field s h c last = (t : World) × FieldChecked o.way o.chosen field s (last ∷ []) (at t c h.store.disk) × IsHost h t
 
 -- Where the check of a field ended early: it was evaluated in part, or in whole and its answer couldn't be accepted or reported.
-pub data FieldBroke {C : Type 0} (o : OneByOne C) (field : Field) (s : At C) (l : Left C) (x : Storing) (why : RunFault) : Type 0 where
-  early : FieldFailed o field s l why → (why ≡ fault.Output → ⊥) → PutNone x → FieldBroke o field s l x why
-  full : (last : Case) (one : Op) → why ≡ fault.Host hosts.JournalFull → FieldLast o field s l.host l.sources last → accepted_of last ≡ one ∷ [] → l.now ≡ l.out
-      → PutNone x → NoPlace one x.store.disk → FieldBroke o field s l x why
-  broken : (last : Case) (one : Op) → why ≡ fault.Host hosts.Disk → FieldLast o field s l.host l.sources last → accepted_of last ≡ one ∷ [] → l.now ≡ l.out
-      → HoldsBut x.ops x.more one x.disk x.store.disk → FieldBroke o field s l x why
-  unwritten : (last : Case) → why ≡ fault.Output → FieldLast o field s l.host l.sources last → PutAll x (accepted_of last) → FieldBroke o field s l x why
+pub data FieldBroke {C : Type 0} (o : OneByOne C) (field : Field) (s : At C) (l : Left C) (y : Putting) (why : RunFault) : Type 0 where
+  early : FieldFailed o field s l why → (why ≡ fault.Output → ⊥) → PutsNothing y → FieldBroke o field s l y why
+  full : (last : Case) → why ≡ fault.Host hosts.JournalFull → FieldLast o field s l.host l.sources last → l.now ≡ l.out
+      → Whatever y (λ x. NotPut x (accepted_of last) refused.Full) → FieldBroke o field s l y why
+  broken : (last : Case) → why ≡ fault.Host hosts.Disk → FieldLast o field s l.host l.sources last → l.now ≡ l.out
+      → Whatever y (λ x. NotPut x (accepted_of last) refused.Disk) → FieldBroke o field s l y why
+  unwritten : (last : Case) → why ≡ fault.Output → FieldLast o field s l.host l.sources last → Puts y (accepted_of last) → FieldBroke o field s l y why
 
 -- some of the first of these fields were checked, and these are their cases
 pub record FieldsUpTo {C : Type 0} (o : OneByOne C) (fields : List Field) (s : At C) (h : HostView) (c : C) (cases : List Case) : Type 0 where
@@ -117,17 +139,17 @@ pub record FieldsUpTo {C : Type 0} (o : OneByOne C) (fields : List Field) (s : A
   pub stands : IsHost h leads
 
 -- Where the check of fields ended early.
-pub data FieldsBroke {C : Type 0} (o : OneByOne C) (fields : List Field) (s : At C) (l : Left C) (x : Storing) (why : RunFault) : Type 0 where
-  early : (failed : FieldsFailed o fields s l why) → (why ≡ fault.Output → ⊥) → PutAll x (accepted failed.cases) → FieldsBroke o fields s l x why
+pub data FieldsBroke {C : Type 0} (o : OneByOne C) (fields : List Field) (s : At C) (l : Left C) (x : Filing) (why : RunFault) : Type 0 where
+  early : (failed : FieldsFailed o fields s l why) → (why ≡ fault.Output → ⊥) → FiledAll x l.out failed.cases → FieldsBroke o fields s l x why
   full : (cases : List Case) (last : Case) (one : Op) → why ≡ fault.Host hosts.JournalFull → FieldsUpTo o fields s l.host l.sources (cases ++ last ∷ []) → accepted_of last ≡ one ∷ []
-      → Appends l.out l.now (report_front o.format cases) → PutAll x (accepted cases) → NoPlace one x.store.disk → FieldsBroke o fields s l x why
+      → Appends l.out l.now (report_front o.format cases) → FiledAll x l.out cases → NoPlace one x.after → FieldsBroke o fields s l x why
   broken : (cases : List Case) (last : Case) (one : Op) → why ≡ fault.Host hosts.Disk → FieldsUpTo o fields s l.host l.sources (cases ++ last ∷ []) → accepted_of last ≡ one ∷ []
-      → Appends l.out l.now (report_front o.format cases) → HoldsBut x.ops (x.more ++ accepted cases) one x.disk x.store.disk → FieldsBroke o fields s l x why
-  unwritten : (cases : List Case) → why ≡ fault.Output → FieldsUpTo o fields s l.host l.sources cases → PutAll x (accepted cases) → FieldsBroke o fields s l x why
+      → Appends l.out l.now (report_front o.format cases) → FiledBut x l.out cases one → FieldsBroke o fields s l x why
+  unwritten : (cases : List Case) → why ≡ fault.Output → FieldsUpTo o fields s l.host l.sources cases → FiledAll x l.out cases → FieldsBroke o fields s l x why
 
--- The fields of a worksheet were checked on a copy of it, each life that goes on was stopped, and what is accepted is put in a store in
--- which nothing was put before; or that ended early.
-abbrev pub OnCopy : {C : Type 0} → OneByOne C → Contents → Passage C → Storing → Result Counts RunFault → Type 0
+-- The fields of a worksheet were checked on a copy of it, each life that goes on was stopped, and what is accepted is put on a disk on which nothing was put
+-- before; or that ended early.
+abbrev pub OnCopy : {C : Type 0} → OneByOne C → Contents → Passage C → Filing → Result Counts RunFault → Type 0
 OnCopy o sheet q x counted = (w : World) × (copy : DiskView) × IsCopy sheet w copy
-    × IfOk counted (λ counts. (ended : FieldsEnded o sheet.fields w copy q counts) × PutAll x (accepted ended.0))
-    × IfErr counted (AcceptLeft o sheet q (filing x.ops x.disk x.store.disk))
+    × IfOk counted (λ counts. (ended : FieldsEnded o sheet.fields w copy q counts) × FiledAll x q.text ended.0)
+    × IfErr counted (AcceptLeft o sheet q x)

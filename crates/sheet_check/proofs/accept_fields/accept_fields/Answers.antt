@@ -25,7 +25,7 @@ loop-field-init g c =
       stands = c.requires.stands;
       written = λ at_once. at_once;
       goes = c.requires.goes_on;
-      runs = λ w h ops disk stores. none_took (way g.C.Children.after g.C.Sources.clock g.C.Sources.wakes c.args.suite.now.manner.request.now.limit) c.args.suite.now.manner.request.now.chosen c.args.suite.now.sheet.now.contents.fields _ w c.args.driver.now.host c.args.driver.now.sources (g.W.Write.contents c.args.writer.now) ops disk c.args.store.now c.none-counts.result c.fields-fields.ensures c.none-counts.ensures h stores;
+      runs = λ w h ops disk stores. none_took (way g.C.Children.after g.C.Sources.clock g.C.Sources.wakes c.args.suite.now.manner.request.now.limit) c.args.suite.now.manner.request.now.chosen c.args.suite.now.sheet.now.contents.fields _ w c.args.driver.now.host c.args.driver.now.sources (g.W.Write.contents c.args.writer.now) g.W.Stamped.held ops disk c.args.store.now c.none-counts.result c.fields-fields.ensures c.none-counts.ensures h stores;
     }
 
 pub accept_field-requires-clause-few : goal.accept_field-requires-clause-few
@@ -44,7 +44,7 @@ loop-field-preserved g c =
     let one = ap length c.in-Some.ensures.steps in
     let was = c.loop-field.invariant in
     let gone = was.rest.0 in
-    let took = c.in-Ok.ensures.ok was.stands.0 was.stands.1 was.goes.ops (accepted was.goes.cases) was.goes.disk was.goes.stores in
+    let took = c.in-Ok.ensures.ok was.stands.0 was.stands.1 in
     record {
       few = omega (arith, one, was.few, c.in-Ok.ensures.bound);
       errors = c.in-Ok.ensures.errors;
@@ -54,26 +54,26 @@ loop-field-preserved g c =
       rest = (gone ++ c.in-Some.field.now ∷ [], was.rest.1 ∙ ap (λ (fs : List Field). gone ++ fs) c.in-Some.ensures.steps ∙ sym (append_assoc gone (c.in-Some.field.now ∷ []) c.next.new.self));
       stands = (took.0.1, took.0.3);
       written = λ at_once. c.accept_field.ensures.written (was.written at_once);
-      goes = goes_further c.args.suite.now.sheet.now.contents c.loop-field.store c.accept_field.new.store was.goes took.0.0 took.1;
+      goes = goes_further c.args.suite.now.sheet.now.contents c.loop-field.store c.accept_field.new.store was.goes took.0.0 (took.1 was.goes.ops (accepted was.goes.cases) was.goes.disk was.goes.stores);
       runs = λ w h ops disk stores.
           let so = was.runs w h ops disk stores in
           one_took (way g.C.Children.after g.C.Sources.clock g.C.Sources.wakes c.args.suite.now.manner.request.now.limit) c.args.suite.now.manner.request.now.chosen c.args.suite.now.sheet.now.contents.fields c.loop-field.fields c.in-Some.field.now c.next.new.self (at w c.args.driver.now.sources c.args.driver.now.host.store.disk) c.loop-field.driver.host c.loop-field.driver.sources
-          (g.W.Write.contents c.args.writer.now) (g.W.Write.contents c.loop-field.writer) ops disk c.loop-field.store c.loop-field.counts c.accept_field.new.driver.host c.accept_field.new.driver.sources (g.W.Write.contents c.accept_field.new.writer)
-          c.accept_field.new.store c.in-Some.ensures.steps so c.in-Ok.after (c.in-Ok.ensures.ok so.so.leads so.so.stands ops (accepted so.so.cases) disk so.kept);
+          (g.W.Write.contents c.args.writer.now) (g.W.Write.contents c.loop-field.writer) g.W.Stamped.held ops disk c.loop-field.store c.loop-field.counts c.accept_field.new.driver.host c.accept_field.new.driver.sources (g.W.Write.contents c.accept_field.new.writer)
+          c.accept_field.new.store c.in-Some.ensures.steps so c.in-Ok.after (c.in-Ok.ensures.ok so.so.leads so.so.stands) c.in-Ok.ensures.stamped;
     }
 
 pub returns-clause-ok : goal.returns-clause-ok
 returns-clause-ok g c = λ w h ops disk stores.
     all_took (way g.C.Children.after g.C.Sources.clock g.C.Sources.wakes c.args.suite.now.manner.request.now.limit) c.args.suite.now.manner.request.now.chosen c.args.suite.now.sheet.now.contents.fields c.loop-field.fields (at w c.args.driver.now.sources c.args.driver.now.host.store.disk) c.loop-field.driver.host c.loop-field.driver.sources
-    (g.W.Write.contents c.args.writer.now) (g.W.Write.contents c.loop-field.writer) ops disk c.loop-field.store c.loop-field.counts c.in_default.ensures.steps.0
+    (g.W.Write.contents c.args.writer.now) (g.W.Write.contents c.loop-field.writer) g.W.Stamped.held ops disk c.loop-field.store c.loop-field.counts c.in_default.ensures.steps.0
     (c.loop-field.invariant.runs w h ops disk stores)
 
 pub returns-in-Err-clause-err : goal.returns-in-Err-clause-err
 returns-in-Err-clause-err g c = λ w h ops disk stores.
     let so = c.loop-field.invariant.runs w h ops disk stores in
     one_broke (way g.C.Children.after g.C.Sources.clock g.C.Sources.wakes c.args.suite.now.manner.request.now.limit) c.args.suite.now.manner.request.now.chosen c.args.suite.now.sheet.now.contents.fields c.loop-field.fields c.in-Some.field.now c.next.new.self (at w c.args.driver.now.sources c.args.driver.now.host.store.disk) c.loop-field.driver.host c.loop-field.driver.sources
-    (g.W.Write.contents c.args.writer.now) (g.W.Write.contents c.loop-field.writer) ops disk c.loop-field.store c.loop-field.counts c.accept_field.new.driver.host c.accept_field.new.driver.sources (g.W.Write.contents c.accept_field.new.writer)
-    c.accept_field.new.store c.in-Some.ensures.steps so c.in-Err.fault (c.in-Err.ensures.err so.so.leads so.so.stands ops (accepted so.so.cases) disk so.kept)
+    (g.W.Write.contents c.args.writer.now) (g.W.Write.contents c.loop-field.writer) g.W.Stamped.held ops disk c.loop-field.store c.loop-field.counts c.accept_field.new.driver.host c.accept_field.new.driver.sources (g.W.Write.contents c.accept_field.new.writer)
+    c.accept_field.new.store c.in-Some.ensures.steps so c.in-Err.fault (c.in-Err.ensures.err so.so.leads so.so.stands) c.in-Err.ensures.stamped
 
 pub returns-in-Err-clause-written : goal.returns-in-Err-clause-written
 returns-in-Err-clause-written g c = λ at_once. c.accept_field.ensures.written (c.loop-field.invariant.written at_once)

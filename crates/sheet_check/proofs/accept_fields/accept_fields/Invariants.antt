@@ -24,5 +24,5 @@ invariant-loop-field g l = record {
   written : l.fn.store.gathers ≡ false → l.store.gathers ≡ false;
   goes : GoesOn l.fn.suite.sheet.now.contents l.store;
   runs : (w : World) → IsHost l.fn.driver.host w → (ops : List Op) → (disk : DiskView) → Stores ops [] disk l.fn.store
-      → TookSoFar (way g.C.Children.after g.C.Sources.clock g.C.Sources.wakes l.fn.suite.manner.request.now.limit) l.fn.suite.manner.request.now.chosen l.fn.suite.sheet.now.contents.fields l.fields (at w l.fn.driver.sources l.fn.driver.host.store.disk) l.driver.host l.driver.sources (g.W.Write.contents l.fn.writer) (g.W.Write.contents l.writer) ops disk l.store l.counts;
+      → TookSoFar (way g.C.Children.after g.C.Sources.clock g.C.Sources.wakes l.fn.suite.manner.request.now.limit) l.fn.suite.manner.request.now.chosen l.fn.suite.sheet.now.contents.fields l.fields (at w l.fn.driver.sources l.fn.driver.host.store.disk) l.driver.host l.driver.sources (g.W.Write.contents l.fn.writer) (g.W.Write.contents l.writer) g.W.Stamped.held ops disk l.store l.counts;
 }

@@ -1,6 +1,7 @@
 use Rattle.std.proofs.Common.{◌≡◌, ◌∙◌, [], subst, sym}
 use Rattle.recovery.specs.Sheets.{StoreView}
 use Rattle.check_report.specs.declared.report.Format.TheVariants as format
+use Rattle.sheet_check.specs.Accept.{filing}
 use Rattle.sheet_check.specs.Evaluated.{way}
 use Rattle.sheet_check.specs.Kept.{HoldsAll}
 use Rattle.sheet_check.specs.Progress.{checked_count, display}
@@ -10,10 +11,10 @@ use Rattle.sheet_check.proofs.accept_fields.accept_sheet.Goals as goal
 
 pub returns-clause-accepted : goal.returns-clause-accepted
 returns-clause-accepted g c = λ ops disk stores.
-    accept_answered (way g.C.Children.after g.C.Sources.clock g.C.Sources.wakes c.args.manner.now.request.now.limit) c.args.manner.now.request.now.chosen c.args.store.now.sheet.contents c.args.sources c.accepted_on_copies-answer.result.sources (g.W.Write.contents c.args.writer.now) (g.W.Write.contents c.accepted_on_copies-answer.new.writer) (g.W.Write.contents c.tell_counts.new.writer) ops disk c.accepted_on_copies-answer.new.store
+    accept_answered (way g.C.Children.after g.C.Sources.clock g.C.Sources.wakes c.args.manner.now.request.now.limit) c.args.manner.now.request.now.chosen c.args.store.now.sheet.contents c.args.sources c.accepted_on_copies-answer.result.sources (g.W.Write.contents c.args.writer.now) (g.W.Write.contents c.accepted_on_copies-answer.new.writer) (g.W.Write.contents c.tell_counts.new.writer) (filing g.W.Stamped.held ops disk c.accepted_on_copies-answer.new.store.disk)
     ((c.tell_counts.new.writer ≡ c.args.writer.now) × (c.accepted_on_copies-answer.result.sources ≡ c.args.sources)) c.accepted_on_copies-answer.result.answer c.tell_counts.result (c.accepted_on_copies-answer.ensures.some ops disk stores)
     (none_of_both c.accepted_on_copies-answer.result.answer c.accepted_on_copies-answer.ensures.none c.tell_counts.ensures.none
-    (λ x y. ((y.0 ∙ x.1, x.0), subst (λ (s : StoreView). HoldsAll ops [] disk s.disk) (sym x.3) stores.disk)))
+    (λ x y. ((y.0 ∙ x.1, x.0), (subst (λ (s : StoreView). HoldsAll ops [] disk s.disk) (sym x.3) stores.disk, tt))))
     c.tell_counts.ensures.counts
 
 pub returns-clause-shown : goal.returns-clause-shown

@@ -4,9 +4,9 @@ use Rattle.worksheet.specs.Contents.{Contents, SheetView}
 use Rattle.check_report.specs.declared.report.Format.TheVariants as format
 use Rattle.sheet_check.specs.Evaluated.{way}
 use Rattle.sheet_check.specs.Progress.{SheetShows, checked_count, display}
-use Rattle.sheet_check.specs.inside.Accepting.{GoesOn, OnCopy, storing}
+use Rattle.sheet_check.specs.inside.Accepting.{GoesOn, OnCopy}
 use Rattle.sheet_check.specs.Check.{passage}
-use Rattle.sheet_check.specs.Accept.{to_accept}
+use Rattle.sheet_check.specs.Accept.{filing, to_accept}
 use Rattle.sheet_check.proofs.Kept.{copy_is}
 use Rattle.sheet_check.proofs.accept_fields.accepted_on_copies.Goals as goal
 
@@ -33,7 +33,7 @@ returns-in-Some-clause-some g c = λ ops disk stores.
     ap (λ (s : SheetView). s.contents) c.sheet-in-Some.ensures.sheet ∙ copy_is c.one_sheet.ensures c.sheet.result.now.contents o.0 c.in-Some.was o.1 o.2 ∙ ap
     (λ (s : SheetView). s.contents) c.sheet.ensures.sheet in
     subst (λ (s : Contents). IfSome c.accepted_on_copy.result.answer
-    (OnCopy (to_accept (way g.C.Children.after g.C.Sources.clock g.C.Sources.wakes c.args.manner.now.request.now.limit) c.args.manner.now.request.now.chosen) s (passage c.args.sources c.accepted_on_copy.result.sources (g.W.Write.contents c.args.writer.now) (g.W.Write.contents c.accepted_on_copy.new.writer)) (storing ops [] disk c.accepted_on_copy.new.store))) same
+    (OnCopy (to_accept (way g.C.Children.after g.C.Sources.clock g.C.Sources.wakes c.args.manner.now.request.now.limit) c.args.manner.now.request.now.chosen) s (passage c.args.sources c.accepted_on_copy.result.sources (g.W.Write.contents c.args.writer.now) (g.W.Write.contents c.accepted_on_copy.new.writer)) (filing g.W.Stamped.held ops disk c.accepted_on_copy.new.store.disk))) same
     (c.accepted_on_copy.ensures.some ops disk stores)
 
 pub returns-in-Some-clause-shown : goal.returns-in-Some-clause-shown

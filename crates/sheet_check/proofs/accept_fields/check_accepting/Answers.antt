@@ -30,11 +30,11 @@ returns-in-Ok-clause-accepted g c =
     opened c.in-Ok.store.sheet.contents e.made.0 c.in-Ok.store.disk (opened_on (g.D.Disk.view c.args.disk) c.in-Ok.store e.made.0 e.made.1 e.open e.same e.steady e.sheet e.looks e.images)
     (done_so (missing_named c.args.manner.now.request.now.chosen c.in-Ok.store.sheet.contents.fields)
     (nothing × (c.accept_named-answer.new.store ≡ c.in-Ok.store)) (nothing × (g.D.Disk.view c.into_disk.result ≡ c.in-Ok.store.disk))
-    (SheetAccepts (to_accept (way g.C.Children.after g.C.Sources.clock g.C.Sources.wakes c.args.manner.now.request.now.limit) c.args.manner.now.request.now.chosen) c.in-Ok.store.sheet.contents (passage c.args.sources c.accept_named-answer.result.sources (g.W.Write.contents c.args.writer.now) (g.W.Write.contents c.accept_named-answer.new.writer)) nothing (filing e.made.0 c.in-Ok.store.disk c.accept_named-answer.new.store.disk))
-    (SheetAccepts (to_accept (way g.C.Children.after g.C.Sources.clock g.C.Sources.wakes c.args.manner.now.request.now.limit) c.args.manner.now.request.now.chosen) c.in-Ok.store.sheet.contents (passage c.args.sources c.accept_named-answer.result.sources (g.W.Write.contents c.args.writer.now) (g.W.Write.contents c.accept_named-answer.new.writer)) nothing (filing e.made.0 c.in-Ok.store.disk (g.D.Disk.view c.into_disk.result)))
+    (SheetAccepts (to_accept (way g.C.Children.after g.C.Sources.clock g.C.Sources.wakes c.args.manner.now.request.now.limit) c.args.manner.now.request.now.chosen) c.in-Ok.store.sheet.contents (passage c.args.sources c.accept_named-answer.result.sources (g.W.Write.contents c.args.writer.now) (g.W.Write.contents c.accept_named-answer.new.writer)) nothing (filing g.W.Stamped.held e.made.0 c.in-Ok.store.disk c.accept_named-answer.new.store.disk))
+    (SheetAccepts (to_accept (way g.C.Children.after g.C.Sources.clock g.C.Sources.wakes c.args.manner.now.request.now.limit) c.args.manner.now.request.now.chosen) c.in-Ok.store.sheet.contents (passage c.args.sources c.accept_named-answer.result.sources (g.W.Write.contents c.args.writer.now) (g.W.Write.contents c.accept_named-answer.new.writer)) nothing (filing g.W.Stamped.held e.made.0 c.in-Ok.store.disk (g.D.Disk.view c.into_disk.result)))
     c.accept_named-answer.result.answer (λ p. (p.0, back ∙ ap (λ (s : StoreView). s.disk) p.1))
     (λ counted came. subst (λ (disk : DiskView). SheetAccepts
-    (to_accept (way g.C.Children.after g.C.Sources.clock g.C.Sources.wakes c.args.manner.now.request.now.limit) c.args.manner.now.request.now.chosen) c.in-Ok.store.sheet.contents (passage c.args.sources c.accept_named-answer.result.sources (g.W.Write.contents c.args.writer.now) (g.W.Write.contents c.accept_named-answer.new.writer)) nothing (filing e.made.0 c.in-Ok.store.disk disk) counted) (sym back) came)
+    (to_accept (way g.C.Children.after g.C.Sources.clock g.C.Sources.wakes c.args.manner.now.request.now.limit) c.args.manner.now.request.now.chosen) c.in-Ok.store.sheet.contents (passage c.args.sources c.accept_named-answer.result.sources (g.W.Write.contents c.args.writer.now) (g.W.Write.contents c.accept_named-answer.new.writer)) nothing (filing g.W.Stamped.held e.made.0 c.in-Ok.store.disk disk) counted) (sym back) came)
     (c.accept_named-answer.ensures.accepted e.made.0 c.in-Ok.store.disk (opened_stores (g.D.Disk.view c.args.disk) c.in-Ok.store e.made.0 e.made.1 e.open e.same e.images)))
 
 pub returns-in-Ok-clause-failed : goal.returns-in-Ok-clause-failed
@@ -42,7 +42,7 @@ returns-in-Ok-clause-failed g c = λ is.
     let e = c.in-Ok.ensures in
     let nothing : Type 0 = (c.accept_named-answer.new.writer ≡ c.args.writer.now) × (c.accept_named-answer.result.sources ≡ c.args.sources) in
     absurd (accept_unopened (way g.C.Children.after g.C.Sources.clock g.C.Sources.wakes c.args.manner.now.request.now.limit) c.args.manner.now.request.now.chosen c.in-Ok.store.sheet.contents c.args.sources c.accept_named-answer.result.sources (g.W.Write.contents c.args.writer.now) (g.W.Write.contents c.accept_named-answer.new.writer)
-    e.made.0 c.in-Ok.store.disk c.accept_named-answer.new.store.disk
+    (filing g.W.Stamped.held e.made.0 c.in-Ok.store.disk c.accept_named-answer.new.store.disk)
     (missing_named c.args.manner.now.request.now.chosen c.in-Ok.store.sheet.contents.fields) nothing
     (nothing × (c.accept_named-answer.new.store ≡ c.in-Ok.store)) c.accept_named-answer.result.answer opens.Disk
     (c.accept_named-answer.ensures.accepted e.made.0 c.in-Ok.store.disk (opened_stores (g.D.Disk.view c.args.disk) c.in-Ok.store e.made.0 e.made.1 e.open e.same e.images)) is)
@@ -52,7 +52,7 @@ returns-in-Ok-clause-memory g c = λ is.
     let e = c.in-Ok.ensures in
     let nothing : Type 0 = (c.accept_named-answer.new.writer ≡ c.args.writer.now) × (c.accept_named-answer.result.sources ≡ c.args.sources) in
     absurd (accept_unopened (way g.C.Children.after g.C.Sources.clock g.C.Sources.wakes c.args.manner.now.request.now.limit) c.args.manner.now.request.now.chosen c.in-Ok.store.sheet.contents c.args.sources c.accept_named-answer.result.sources (g.W.Write.contents c.args.writer.now) (g.W.Write.contents c.accept_named-answer.new.writer)
-    e.made.0 c.in-Ok.store.disk c.accept_named-answer.new.store.disk
+    (filing g.W.Stamped.held e.made.0 c.in-Ok.store.disk c.accept_named-answer.new.store.disk)
     (missing_named c.args.manner.now.request.now.chosen c.in-Ok.store.sheet.contents.fields) nothing
     (nothing × (c.accept_named-answer.new.store ≡ c.in-Ok.store)) c.accept_named-answer.result.answer opens.OutOfMemory
     (c.accept_named-answer.ensures.accepted e.made.0 c.in-Ok.store.disk (opened_stores (g.D.Disk.view c.args.disk) c.in-Ok.store e.made.0 e.made.1 e.open e.same e.images)) is)
