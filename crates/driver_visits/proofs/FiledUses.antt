@@ -12,7 +12,7 @@ use Rattle.recovery.specs.Sheets.{IsSheetImage}
 use Rattle.worksheet.specs.Ops.{sheet_of}
 use Rattle.check_report.specs.declared.verdict.Counts.{Counts}
 use Rattle.check_report.specs.Reports.{Case}
-use Rattle.sheet_check.specs.Accept.{Filing, ReportedAfter, ReportedInOrder, acceptance, accepted, filing}
+use Rattle.sheet_check.specs.Accept.{Filing, ReportedAfter, EachReported, acceptance, accepted, filing}
 use Rattle.sheet_check.specs.Kept.{IsAmong}
 use Rattle.sheet_check.specs.declared.named.CheckFault.{CheckFault}
 use Rattle.driver_visits.specs.Acceptances.{LeftByAcceptance, ReportedAcceptance, only_read, put_in}
@@ -35,7 +35,7 @@ has_first ops done rest i among = record {
 
 -- one of these that were reported in order was, after those before it
 pub reported_after : (x : Filing) (text : Option (List ℕ)) (put : List Op) (front before : List Case) (one : Case) (others : List Case)
-    → ReportedInOrder x text put front (before ++ one ∷ others) → ReportedAfter x text put (front ++ before) one
+    → EachReported x text put front (before ++ one ∷ others) → ReportedAfter x text put (front ++ before) one
 reported_after x text put front [] one others all = subst (λ (l : List Case). ReportedAfter x text put l one) (sym (append-nil front)) all.0
 reported_after x text put front (c ∷ before) one others all =
     subst (λ (l : List Case). ReportedAfter x text put l one) (append_assoc front (c ∷ []) before) (reported_after x text put (front ++ c ∷ []) before one others all.1)
@@ -72,7 +72,7 @@ module _ {D : Type 0} (held : Option (List ℕ) → DiskView → Type 0) (text :
       with_answers put f.now looks f.answers more
       (λ crash crashed. left_with hosts one disk e (filed put []) crash (acts.filing disk back ops f f.now.history f.moments crashed no_use))
       (λ before case others split. before-text ops put f before case
-      (reported_after (filing held ops f.now back) text put [] before case others (subst (ReportedInOrder (filing held ops f.now back) text put []) split order)))
+      (reported_after (filing held ops f.now back) text put [] before case others (subst (EachReported (filing held ops f.now back) text put []) split order)))
       (λ crash crashed. left_with hosts one disk e (filed put reported) crash (acts.filing disk back ops f back.history at_end crashed no_use))
       (opens_as (e.acts ++ filed put reported ∷ []) kept
       (used_on disk.room e.image (bytes_on disk) (bytes_on back) e.acts (filed put reported ∷ []) e.came

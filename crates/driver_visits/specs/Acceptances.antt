@@ -11,7 +11,7 @@ use Rattle.check_report.specs.declared.report.Format.TheVariants as format
 use Rattle.check_report.specs.declared.verdict.Counts.{Counts}
 use Rattle.check_report.specs.Reports.{Case, closing_text, judgements_of, report_front}
 use Rattle.check_report.specs.Verdicts.{counts_of}
-use Rattle.sheet_check.specs.Accept.{AcceptAnswer, Acceptance, ReportedInOrder, acceptance, accepted, filing, to_accept}
+use Rattle.sheet_check.specs.Accept.{AcceptAnswer, Acceptance, EachReported, acceptance, accepted, filing, to_accept}
 use Rattle.sheet_check.specs.Check.{OnlyRead, passage}
 use Rattle.sheet_check.specs.Evaluated.{Way}
 use Rattle.sheet_check.specs.declared.named.CheckFault.{CheckFault}
@@ -28,7 +28,7 @@ pub data LeftByAcceptance (x : Acceptance) (text : Option (List ℕ)) : List Cas
   only_read : OnlyRead x.disk x.back → LeftByAcceptance x text []
   put_in : {cases : List Case} (ops put : List Op) → (f : Files (bytes_on x.disk) x.disk ops put x.back) → Looks x.disk.history f.now.history
       → SameDisk f.now x.back → AtMostOneMore put (accepted cases) → InModel f.now (Leaves (HasFirst ops put (accepted cases)) x.back.history.now)
-      → ReportedInOrder (filing x.held ops f.now x.back) text put [] cases → LeftByAcceptance x text cases
+      → EachReported (filing x.held ops f.now x.back) text put [] cases → LeftByAcceptance x text cases
 
 -- what stands after the report of these cases: their counts, and nothing where it ended by a fault
 abbrev pub closing_after : List Case → Result Counts CheckFault → List ℕ

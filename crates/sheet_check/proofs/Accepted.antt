@@ -38,7 +38,7 @@ use Rattle.live.specs.Records as records
 use Rattle.sheet_check.specs.Evaluated.{Way, came_if, reason_shown_in, shown_in}
 use Rattle.sheet_check.specs.Fields.{Evaluated, FieldChecked, FieldsChecked, checked, passed}
 use Rattle.sheet_check.specs.declared.accept_shown.Finding.{Finding}
-use Rattle.sheet_check.specs.Accept.{FiledAll, FiledBut, ReportedInOrder, accepted, accepted_answer, accepted_of, answer_ops, filing, to_accept}
+use Rattle.sheet_check.specs.Accept.{FiledAll, FiledBut, EachReported, accepted, accepted_answer, accepted_of, answer_ops, filing, to_accept}
 use Rattle.sheet_check.specs.inside.Accepting.{FieldBroke, FieldLast, FieldsBroke, FieldsTook, FieldsUpTo, Finds, GoesOn, NotPut, NotTaken, Putting, Puts, PutsNothing, ShownTook, Whatever, broken, early, fault_of_acceptance, full, putting, unwritten}
 use Rattle.sheet_check.specs.inside.Accepting as inside
 use Rattle.sheet_check.specs.inside.Checking.{EvaluationBroke, FieldFailed, FieldWrote, FirstFailed, counted_on, question}
@@ -196,7 +196,7 @@ pub record TookSoFar {C : Type 0} (o : Way C) (chosen : Chosen) (all left : List
     (held : Option (List ℕ) → DiskView → Type 0) (ops : List Op) (disk : DiskView) (store : StoreView) (counts : Counts) : Type 0 where
   pub so : FieldsSoFar (to_accept o chosen) all left s h c a b counts
   pub kept : Stores ops (accepted so.cases) disk store
-  pub order : ReportedInOrder (filing held ops disk store.disk) a (accepted so.cases) [] so.cases
+  pub order : EachReported (filing held ops disk store.disk) a (accepted so.cases) [] so.cases
 
 pub none_took : {C : Type 0} (o : Way C) (chosen : Chosen) (all left : List Field) (w : World) (h : HostView) (c : C) (a : Option (List ℕ)) (held : Option (List ℕ) → DiskView → Type 0) (ops : List Op) (disk : DiskView) (store : StoreView) (counts : Counts) → left ≡ all → counts ≡ counts_of [] → IsHost h w
     → Stores ops [] disk store → TookSoFar o chosen all left (at w c h.store.disk) h c a a held ops disk store counts
@@ -242,12 +242,12 @@ module _ {C : Type 0} (o : Way C) (chosen : Chosen) (all left : List Field) (fie
 
   -- what was reported stays
   stay : (ones : List Op) → InModel store.disk (LeavesOnly (IsAmong (ops ++ put-so) ones) store.disk.history new.disk.history)
-      → ReportedInOrder (filing held ops disk new.disk) a (put-so ++ ones) [] taken.so.cases
+      → EachReported (filing held ops disk new.disk) a (put-so ++ ones) [] taken.so.cases
   stay ones step = reports_stay held a ops disk store.disk new.disk put-so ones (λ keeps. step (model keeps)) [] taken.so.cases taken.order
 
   stay-all : InModel store.disk (LeavesOnly (IsAmong (ops ++ put-so) []) store.disk.history new.disk.history)
-      → ReportedInOrder (filing held ops disk new.disk) a put-so [] taken.so.cases
-  stay-all step = subst (λ (os : List Op). ReportedInOrder (filing held ops disk new.disk) a os [] taken.so.cases) (append-nil put-so) (stay [] step)
+      → EachReported (filing held ops disk new.disk) a put-so [] taken.so.cases
+  stay-all step = subst (λ (os : List Op). EachReported (filing held ops disk new.disk) a os [] taken.so.cases) (append-nil put-so) (stay [] step)
 
   -- so does it with one case more
   one-reported : (one : Case) → Puts (putting store new) (accepted_of one) → held b new.disk → FiledAll (filing held ops disk new.disk) a (taken.so.cases ++ one ∷ [])
@@ -255,16 +255,16 @@ module _ {C : Type 0} (o : Way C) (chosen : Chosen) (all left : List Field) (fie
       let all : put-so ++ accepted_of one ≡ accepted (taken.so.cases ++ one ∷ []) =
       ap (λ (os : List Op). put-so ++ os) (sym (append-nil (accepted_of one))) ∙ accepted-more taken.so.cases (one ∷ []) in
       let holds = subst (λ (os : List Op). HoldsAll ops os disk new.disk) all (put ops put-so disk taken.kept).disk in
-      let before = subst (λ (os : List Op). ReportedInOrder (filing held ops disk new.disk) a os [] taken.so.cases) all
+      let before = subst (λ (os : List Op). EachReported (filing held ops disk new.disk) a os [] taken.so.cases) all
       (stay (accepted_of one) (put (ops ++ put-so) [] store.disk here).disk.moments) in
       (holds, one_more (filing held ops disk new.disk) a (accepted (taken.so.cases ++ one ∷ [])) [] taken.so.cases one before
       (reported_now held a b ops disk new.disk taken.so.cases one taken.so.wrote stamped holds))
 
   -- a field was passed over, or checked and reported
   in-order : (cases : List Case) (t : At C) → FieldChecked o chosen field (at taken.so.leads c h.store.disk) cases t → Puts (putting store new) (accepted cases) → (is_chosen chosen field ≡ true → held b new.disk)
-      → ReportedInOrder (filing held ops disk new.disk) a (accepted (taken.so.cases ++ cases)) [] (taken.so.cases ++ cases)
+      → EachReported (filing held ops disk new.disk) a (accepted (taken.so.cases ++ cases)) [] (taken.so.cases ++ cases)
   in-order cases t (passed none) put stamped =
-      subst (λ (cs : List Case). ReportedInOrder (filing held ops disk new.disk) a (accepted cs) [] cs) (sym (append-nil taken.so.cases))
+      subst (λ (cs : List Case). EachReported (filing held ops disk new.disk) a (accepted cs) [] cs) (sym (append-nil taken.so.cases))
       (stay-all (put (ops ++ put-so) [] store.disk here).disk.moments)
   in-order cases t (checked came took verdict u some evaluated judged) put stamped =
       let one = case field came (reason_shown_in u.world field.id) verdict (Some took) in

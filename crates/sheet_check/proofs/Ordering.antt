@@ -8,7 +8,7 @@ use Rattle.recovery.specs.Sheets.{IsSheetImage, StoreView}
 use Rattle.std.specs.Io.KnownBytes.{Appends}
 use Rattle.check_report.specs.declared.report.Format.TheVariants as format
 use Rattle.check_report.specs.Reports.{Case, report_front}
-use Rattle.sheet_check.specs.Accept.{Filing, ReportedAfter, ReportedInOrder, accepted, filing}
+use Rattle.sheet_check.specs.Accept.{Filing, ReportedAfter, EachReported, accepted, filing}
 use Rattle.sheet_check.specs.Kept.{HoldsAll, IsAmong, Stores}
 
 -- an image with some of the first of these has some of the first of these and others
@@ -48,13 +48,13 @@ module _ (held : Option (List ℕ) → DiskView → Type 0) (text : Option (List
       }
 
   -- what was reported stays on the disk while these are put
-  pub reports_stay : (front cases : List Case) → ReportedInOrder (filing held ops before mid) text put front cases → ReportedInOrder (filing held ops before after) text (put ++ ones) front cases
+  pub reports_stay : (front cases : List Case) → EachReported (filing held ops before mid) text put front cases → EachReported (filing held ops before after) text (put ++ ones) front cases
   reports_stay front [] all = tt
   reports_stay front (one ∷ cases) all = (one_stays front one all.0, reports_stay (front ++ one ∷ []) cases all.1)
 
 -- one case more
-pub one_more : (x : Filing) (text : Option (List ℕ)) (put : List Op) (front cases : List Case) (one : Case) → ReportedInOrder x text put front cases
-    → ReportedAfter x text put (front ++ cases) one → ReportedInOrder x text put front (cases ++ one ∷ [])
+pub one_more : (x : Filing) (text : Option (List ℕ)) (put : List Op) (front cases : List Case) (one : Case) → EachReported x text put front cases
+    → ReportedAfter x text put (front ++ cases) one → EachReported x text put front (cases ++ one ∷ [])
 one_more x text put front [] one all last = (subst (λ (l : List Case). ReportedAfter x text put l one) (append-nil front) last, tt)
 one_more x text put front (c ∷ cases) one all last =
     (all.0, one_more x text put (front ++ c ∷ []) cases one all.1 (subst (λ (l : List Case). ReportedAfter x text put l one) (sym (append_assoc front (c ∷ []) cases)) last))

@@ -90,17 +90,17 @@ pub record ReportedAfter (x : Filing) (text : Option (List ℕ)) (put : List Op)
   pub since : InModel x.before (LeavesOnly (IsAmong (x.ops ++ accepted (before ++ one ∷ [])) rest) disk.history x.after.history)
 
 -- each of these cases was, after those before it
-abbrev pub ReportedInOrder : Filing → Option (List ℕ) → List Op → List Case → List Case → Type 0
-ReportedInOrder x text put before [] = Unit {0}
-ReportedInOrder x text put before (one ∷ cases) = ReportedAfter x text put before one × ReportedInOrder x text put (before ++ one ∷ []) cases
+abbrev pub EachReported : Filing → Option (List ℕ) → List Op → List Case → List Case → Type 0
+EachReported x text put before [] = Unit {0}
+EachReported x text put before (one ∷ cases) = ReportedAfter x text put before one × EachReported x text put (before ++ one ∷ []) cases
 
 -- On the disk is what is accepted of these cases, and no more. It was there before each of them was reported.
 abbrev pub FiledAll : Filing → Option (List ℕ) → List Case → Type 0
-FiledAll x text cases = HoldsAll x.ops (accepted cases) x.before x.after × ReportedInOrder x text (accepted cases) [] cases
+FiledAll x text cases = HoldsAll x.ops (accepted cases) x.before x.after × EachReported x text (accepted cases) [] cases
 
 -- So it is, and at the next op the disk failed.
 abbrev pub FiledBut : Filing → Option (List ℕ) → List Case → Op → Type 0
-FiledBut x text cases one = HoldsBut x.ops (accepted cases) one x.before x.after × ReportedInOrder x text (accepted cases ++ one ∷ []) [] cases
+FiledBut x text cases one = HoldsBut x.ops (accepted cases) one x.before x.after × EachReported x text (accepted cases ++ one ∷ []) [] cases
 
 -- Why it ended early, and what that leaves from one disk to the other. What was reported is on the disk, and but for the last two no more.
 pub data AcceptLeft {C : Type 0} (o : OneByOne C) (sheet : Contents) (q : Passage C) (x : Filing) (why : RunFault) : Type 0 where
