@@ -256,9 +256,11 @@ module _ {C : Type 0} (o : Way C) (chosen : Chosen) (all left : List Field) (fie
       ap (λ (os : List Op). put-so ++ os) (sym (append-nil (accepted_of one))) ∙ accepted-more taken.so.cases (one ∷ []) in
       let holds = subst (λ (os : List Op). HoldsAll ops os disk new.disk) all (put ops put-so disk taken.kept).disk in
       let before = subst (λ (os : List Op). EachReported (filing held ops disk new.disk) a os [] taken.so.cases) all
-      (stay (accepted_of one) (put (ops ++ put-so) [] store.disk here).disk.moments) in
-      (holds, one_more (filing held ops disk new.disk) a (accepted (taken.so.cases ++ one ∷ [])) [] taken.so.cases one before
-      (reported_now held a b ops disk new.disk taken.so.cases one taken.so.wrote stamped holds))
+      (stay (accepted_of one) (put (ops ++ put-so) [] store.disk here).disk.moments) in (
+        holds,
+        one_more (filing held ops disk new.disk) a (accepted (taken.so.cases ++ one ∷ [])) [] taken.so.cases one before
+            (reported_now held a b ops disk new.disk taken.so.cases one taken.so.wrote stamped holds),
+      )
 
   -- a field was passed over, or checked and reported
   in-order : (cases : List Case) (t : At C) → FieldChecked o chosen field (at taken.so.leads c h.store.disk) cases t → Puts (putting store new) (accepted cases) → (is_chosen chosen field ≡ true → held b new.disk)
