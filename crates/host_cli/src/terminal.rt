@@ -1,12 +1,15 @@
 //! What a person at a terminal reads beside what the programs say: what a program waits for, and why a file can't be had.
-//! Into a pipe or a file nothing of it goes.
+//! Into a pipe or a file nothing of it goes, but for the reason, where the environment asks for it.
 use crate::startup::words;
 use command_words::{Task, read_words};
 use std::fs::OpenOptions;
 use std::io::{IsTerminal, Write};
 use std::os::unix::fs::MetadataExt;
 use std::rt::Files;
-use std::{fs, io};
+use std::{env, fs, io};
+
+/// The variable of the environment that asks for reasons also where the errors go to no terminal, by the value `1`.
+const EXPLAIN: &str = "TMHOST_EXPLAIN";
 
 /// What a task does with the worksheet at a path.
 #[derive(Clone, Copy, Debug, PartialEq, Eq)]
@@ -134,10 +137,18 @@ fn explain_all(rt: &HostRuntime, paths: &[&str], writes: bool) {
     }
 }
 
-/// Says on a terminal why the files of a program with this status can't be had, where the system has a reason. It
-/// asks the system once more, so it says nothing where the reason is gone.
+/// Whether the environment asks for reasons.
+fn is_asked_to_explain(rt: &HostRuntime) -> bool {
+    match env::var(rt, EXPLAIN) {
+        Ok(value) => value.as_str() == "1",
+        Err(_) => false,
+    }
+}
+
+/// Says on a terminal, or where the environment asks for it, why the files of a program with this status can't be had,
+/// where the system has a reason. It asks the system once more, so it says nothing where the reason is gone.
 pub fn explain(rt: &HostRuntime, status: u8) {
-    if status != 1 || !rt.stderr().is_terminal() {
+    if status != 1 || !(rt.stderr().is_terminal() || is_asked_to_explain(rt)) {
         return;
     }
     let Ok(words) = words(rt) else {

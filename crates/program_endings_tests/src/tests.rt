@@ -1,5 +1,6 @@
 //! What stands in files, and readers and writers that fail or count. What is printed, reported and refused
 //! where they work are cases of `programs`, `data/steps.sh`.
+mod crashed_runs;
 mod crashes;
 mod disk_calls;
 mod file_calls;

@@ -64,6 +64,10 @@ sends 'run on a terminal' 0 '' run sheet
 sends 'live on a terminal' 0 '' live sheet
 
 # Why a file can't be had stands behind the fault, and what a program waits for is said where a person has to type it.
+compare 'no worksheet, into a pipe' "$("$tmhost" show nowhere 2>&1; echo "status $?")" "$(ending 'fault 32 Disk\n' 1)"
+compare 'no worksheet, into a pipe that asks why' "$(TMHOST_EXPLAIN=1 "$tmhost" show nowhere 2>&1; echo "status $?")" \
+    "$(ending 'fault 32 Disk\ntmhost: nowhere: No such file or directory (os error 2)\n' 1)"
+compare 'no worksheet, into a pipe that does not ask' "$(TMHOST_EXPLAIN=0 "$tmhost" show nowhere 2>&1; echo "status $?")" "$(ending 'fault 32 Disk\n' 1)"
 sends 'no worksheet to show' 1 'fault 32 Disk\r\ntmhost: no/where: No such file or directory (os error 2)\r\n' show no/where
 sends 'a folder' 1 'fault 32 Disk\r\ntmhost: .: it is no plain file\r\n' live .
 sends 'a name that is taken' 1 'fault 34 NotEmpty\r\ntmhost: sheet: it exists\r\ntmhost: sheet.alt: it exists\r\n' create sheet
