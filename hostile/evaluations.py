@@ -1,5 +1,7 @@
 """What `tmhost eval` is to do with a worksheet of random lines, as the lines of a script, and what it wrote as what these lines tell."""
 
+from __future__ import annotations
+
 import json
 import re
 import subprocess

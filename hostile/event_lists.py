@@ -30,7 +30,7 @@ LAST_NUMBER = 2**32 - 1
 NAMES = [b"a", b"b", b"c-1"]
 NO_NAMES = [b"", b"a b", b"\xc3\xa9", b"n" * 33]
 WORDS = [b"sh", b"gp -q", b"x" * 20, "é".encode()]
-NO_WORDS = [[], [b""], [b"a\x1f"], [b"\xff"], [b"w"] * 17, [b"w" * 1025]]
+NO_WORDS: list[list[bytes]] = [[], [b""], [b"a\x1f"], [b"\xff"], [b"w"] * 17, [b"w" * 1025]]
 INPUTS = [b"x", b"x^2 + 1", b"", b"1\t2", "é∑".encode(), b'say "\\"']
 NO_INPUTS = [b"\xc3", b"a\nb", b"\x1b", b"\xed\xa0\x80"]
 ENDS = ["end", "read-fault", "send-fault", "stalled", "start-refused", "stop-fault"]
@@ -109,24 +109,23 @@ class Lists:
         return Event("session", (name, int(tab), words))
 
     def new(self) -> Event:
-        event = Event("new", (self.after(), self.name(), self.input()))
-        after, name, text = event.given
+        after, name, text = self.after(), self.name(), self.input()
         if name in self.tabs and text not in NO_INPUTS and (after == 0 or after in self.fields):
             self.fields[self.next_field], self.inputs[self.next_field] = name, text
             self.next_field += 1
-        return event
+        return Event("new", (after, name, text))
 
     def set(self) -> Event:
-        event = Event("set", (self.field(), self.input()))
-        if event.given[0] in self.inputs and event.given[1] not in NO_INPUTS:
-            self.inputs[event.given[0]] = event.given[1]
-        return event
+        field, text = self.field(), self.input()
+        if field in self.inputs and text not in NO_INPUTS:
+            self.inputs[field] = text
+        return Event("set", (field, text))
 
     def remove(self) -> Event:
-        event = Event("remove", (self.field(),))
+        field = self.field()
         if self.chance(0.7):
-            self.fields.pop(event.given[0], None)
-        return event
+            self.fields.pop(field, None)
+        return Event("remove", (field,))
 
     def asks(self, field: int) -> None:
         """The session of a field is asked something: a life begins where none goes on."""

@@ -1,5 +1,7 @@
 """Blocks as interpreters may write them, and what is read of them, by docs/use/PROTOCOL.md and docs/use/SCRIPT.md: apart from the program's own text."""
 
+from __future__ import annotations
+
 import random
 import re
 from typing import NamedTuple, Optional, Union

@@ -1,5 +1,7 @@
 """Cases: a worksheet to begin with, interpreters, a script, and now and then what stands in the way."""
 
+from __future__ import annotations
+
 import random
 from typing import Callable, NamedTuple, Optional
 
@@ -38,7 +40,7 @@ class Beginning:
 
     def does(self, *parts: bytes) -> None:
         payload = b"".join(parts)
-        self.sheet.take(*op_of(payload))
+        self.sheet.take(op_of(payload))
         self.records.append(record(payload))
 
     def session(self, name: bytes, tab: bool, words: list[bytes]) -> None:

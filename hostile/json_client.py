@@ -1,6 +1,8 @@
 """A client that follows lines of JSON (docs/use/JSON.md): which line each object is about, which lines and requests wait in which life, and what the
 worksheet must be by that. Each banner and answer must be what the play of its interpreter has there."""
 
+from __future__ import annotations
+
 from collections import Counter
 from typing import Any, NamedTuple, Optional
 

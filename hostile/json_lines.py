@@ -1,5 +1,7 @@
 """Lines that a worksheet is told which are no commands, or are refused, and inputs of fields."""
 
+from __future__ import annotations
+
 import random
 
 LONGEST_LINE = 65_536

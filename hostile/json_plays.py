@@ -4,6 +4,8 @@ An interpreter that holds writes nothing until a word stands in the worksheet's 
 traps interrupts, until it is interrupted. So lines can be told while something waits, and what comes between them is the same in each run.
 """
 
+from __future__ import annotations
+
 import random
 from typing import NamedTuple, Optional
 

@@ -1,7 +1,9 @@
 """Random scripts for `run` that both of its forms do in one order: at most one session is at something at a time, and a `wait` stands behind it."""
 
+from __future__ import annotations
+
 import random
-from typing import Optional
+from typing import Callable, Optional
 
 from area import Sheet
 from json_cases import NO_PROGRAMS, Case
@@ -15,8 +17,9 @@ OTHERS = (b"print ", b"interrupt ")
 
 def other_line(rng: random.Random, has_others: bool) -> bytes:
     """A line that does nothing, is refused or isn't known, by both forms; one of `live` only in some scripts."""
+    makers: list[Callable[[], bytes]] = [lambda: remark_of(rng), lambda: garbage_of(rng), lambda: rng.choice(REFUSED_LINES)]
     while True:
-        line = rng.choice([lambda: remark_of(rng), lambda: garbage_of(rng), lambda: rng.choice(REFUSED_LINES)])()
+        line = rng.choice(makers)()
         if len(line) <= LONGEST_LINE and (has_others or not line.startswith(OTHERS)):
             return line
 
@@ -27,7 +30,7 @@ def change_of(rng: random.Random, names: list[bytes], count: int) -> list[bytes]
     def id() -> int:
         return rng.randint(1, count + 1)
 
-    ways = [
+    ways: list[Callable[[], bytes]] = [
         lambda: b"new %d %s %s" % (rng.choice([0, id()]), rng.choice(names), input_of(rng)),
         lambda: b"set %d %s" % (id(), input_of(rng)),
         lambda: b"move %d %d" % (id(), rng.choice([0, id()])),

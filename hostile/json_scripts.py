@@ -4,6 +4,8 @@
 any lines may come while lines and requests wait in it.
 """
 
+from __future__ import annotations
+
 import random
 from typing import NamedTuple, Optional
 

@@ -1,5 +1,7 @@
 """Streams for `blocks`: noise and blocks in any spelling, and now and then what breaks one, or leaves it open."""
 
+from __future__ import annotations
+
 import random
 
 from json_blocks import MOST_DEPTH, block_of, spelled, tower_of

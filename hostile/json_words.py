@@ -1,5 +1,7 @@
 """Lines of JSON that `live --json` tells (docs/use/JSON.md), read strictly, and put into the words that `live` tells of the same (docs/use/SCRIPT.md)."""
 
+from __future__ import annotations
+
 import base64
 import json
 from typing import Any, Callable, NoReturn, Optional
@@ -26,9 +28,7 @@ def no_number(text: str) -> NoReturn:
 
 
 def number(text: str) -> int:
-    if len(text) > 20 or not 0 <= int(text) < 2**64:
-        no_number(text)
-    return int(text)
+    return int(text) if len(text) <= 20 and 0 <= int(text) < 2**64 else no_number(text)
 
 
 def object_of(line: bytes) -> Object:
@@ -349,24 +349,24 @@ def took_of(it: Any) -> None:
         raise Difference(f"wanted true or false: {started!r}")
 
 
-def checked(it: Object) -> bytes:
+def checked(it: Object, reasons: dict[int, str]) -> bytes:
     verdict = it.get("verdict")
-    more = {"same": [], "left_out": [], "differs": ["came", "input", "shows"], "unanswered": ["input", "reason", "shows"], "new": ["came", "input"]}
+    more: dict[str, list[str]] = {"same": [], "left_out": [], "differs": ["came", "input", "shows"], "unanswered": ["input", "reason", "shows"], "new": ["came", "input"]}
     if not isinstance(verdict, str) or verdict not in more:
         raise Difference(f"no verdict: {str(it)[:300]}")
     id, session, took, _, *_ = members(it, "id", "session", "took", "verdict", *more[verdict])
-    number_of(id), text_of(session), took_of(took)
+    number_of(id), text_of(session)
+    took_of(took)
     if not more[verdict]:
         return b""
     if verdict == "new":
         return head_of(id, session, b"> ", it["input"]) + marked(b"+ ", answer_of(it["came"])[1])
-    prompt, old = (b"> ", b"?") if it["shows"] is None else answer_of(it["shows"])
-    if verdict == "unanswered" and it["reason"] is not None:
-        text_of(it["reason"])
+    none = [b"?" if why is None else b"? " + text_of(why) for why in (reasons.get(id), it.get("reason"))]
+    prompt, old = (b"> ", none[0]) if it["shows"] is None else answer_of(it["shows"])
     head = head_of(id, session, prompt, it["input"])
     if verdict == "differs":
         return head + changed(old, answer_of(it["came"])[1])
-    return head + marked(b"- ", old) + marked(b"+ ", b"?")
+    return head + marked(b"- ", old) + marked(b"+ ", none[1])
 
 
 def compared(it: Object) -> bytes:
@@ -375,8 +375,8 @@ def compared(it: Object) -> bytes:
     return b"same %d differ %d unanswered %d" % counts[:3] + more + b"\n"
 
 
-def checked_words(objects: list[Object]) -> bytes:
-    """The words of `check` for the objects of `check --json`, which count as they say."""
+def checked_words(objects: list[Object], reasons: dict[int, str]) -> bytes:
+    """The words of `check` for the objects of `check --json`, which count as they say, of a worksheet whose fields show these reasons."""
     kinds = [it.get("type") for it in objects]
     if kinds != ["hello"] + ["checked"] * (len(objects) - 3) + ["compared", "end"]:
         raise Difference(f"not the objects of a check: {kinds}")
@@ -386,7 +386,7 @@ def checked_words(objects: list[Object]) -> bytes:
     if counts != [verdicts.count(one) for one in ("same", "differs", "unanswered", "left_out", "new")]:
         raise Difference(f"counted {counts}: {verdicts}")
     words_of(objects[0], b""), words_of(objects[-1], b"")
-    return b"".join(map(checked, rests[1:-2])) + compared(rests[-2])
+    return b"".join(checked(it, reasons) for it in rests[1:-2]) + compared(rests[-2])
 
 
 # ---- the words of `blocks`

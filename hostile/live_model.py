@@ -1,5 +1,7 @@
 """What a live worksheet may tell and leave, by docs/use/SCRIPT.md: the model of scripts, taken event by event in the order of what was told."""
 
+from __future__ import annotations
+
 import copy
 import itertools
 import random
@@ -20,22 +22,24 @@ class Transaction:
     """Commands since a `begin`, the line with this number: they are kept until its `end`. A line among them that is no such command breaks
     the transaction."""
 
-    def __init__(self, first):
-        self.first, self.commands, self.is_broken = first, [], False
+    def __init__(self, first: int) -> None:
+        self.first, self.is_broken = first, False
+        self.commands: list[str] = []
 
 
 class Live:
     """A live worksheet behind some of its lines, and what its interpreters said in between. Where the lines are all, a transaction that is open at
     their end is over."""
 
-    def __init__(self, script, kinds, are_all=False):
-        self.model, self.lines, self.at, self.transaction, self.are_all = Model(kinds), script, 0, None, are_all
+    def __init__(self, script: Sequence[str], kinds: dict[str, str], are_all: bool = False) -> None:
+        self.model, self.lines, self.at, self.are_all = Model(kinds), script, 0, are_all
+        self.transaction: Transaction | None = None
 
-    def waits(self):
+    def waits(self) -> bool:
         """Whether an item waits."""
         return any(session.waiting for session in self.model.sessions.values())
 
-    def told_by(self, number, line):
+    def told_by(self, number: int, line: str) -> list[str]:
         """Takes a line, and gives what is told of it."""
         verb, words = words_of(line)
         model = self.model
@@ -52,62 +56,61 @@ class Live:
         refusal = model.refusal(verb, words)
         return [refused(refusal)] if refusal else model.do(verb, words)
 
-    def interrupted(self, name):
+    def interrupted(self, name: str) -> str:
         """What is told of an interrupt. The interpreters of these talks ignore the signal, so nothing comes of it."""
         if name not in self.model.sessions:
             return refused(1)
         return f"interrupted {name}" if self.model.sessions[name].waiting else f"idle {name}"
 
-    def take_line(self):
+    def take_line(self) -> list[str]:
         """Takes the next line of which something is told, and gives that; nothing where there is none, or a wait holds it back."""
         while self.at < len(self.lines):
             line = self.lines[self.at]
             if self.transaction is None and line.split(" ")[0] == "wait" and self.waits():
                 break
             self.at += 1
-            told = self.told_in_transaction(self.at, line) if self.transaction else self.told_alone(self.at, line)
+            told = self.told_in_transaction(self.transaction, self.at, line) if self.transaction else self.told_alone(self.at, line)
             if told:
                 return told
         if self.are_all and self.transaction:
-            return self.undone()
+            return self.undone(self.transaction)
         return []
 
-    def told_alone(self, number, line):
+    def told_alone(self, number: int, line: str) -> list[str]:
         """What is told of a line outside of transactions."""
         if line == "begin":
             self.transaction = Transaction(number)
             return []
         return [] if line == "" or line[0] == "#" or line.split(" ")[0] == "wait" else self.told_by(number, line)
 
-    def told_in_transaction(self, number, line):
+    def told_in_transaction(self, transaction: Transaction, number: int, line: str) -> list[str]:
         """What is told of a line in a transaction: at its end that of all its commands, or the refusal for which none of them was done."""
-        transaction = self.transaction
         if line == "end":
-            return self.undone() if transaction.is_broken else self.do_transaction()
+            return self.undone(transaction) if transaction.is_broken else self.do_transaction(transaction)
         if not transaction.is_broken and (words_of(line)[0] not in EDITS or len(transaction.commands) == MOST_COMMANDS):
             transaction.is_broken = True
             return [f"bad line {number}"]
         transaction.commands.append(line)
         return []
 
-    def undone(self):
+    def undone(self, transaction: Transaction) -> list[str]:
         """The transaction is over, and nothing of it was done."""
-        first, self.transaction = self.transaction.first, None
-        return [f"undone {first} {self.at}"]
+        self.transaction = None
+        return [f"undone {transaction.first} {self.at}"]
 
-    def do_transaction(self):
+    def do_transaction(self, transaction: Transaction) -> list[str]:
         """Does the commands of a transaction, all of them or none."""
-        model, told = copy.deepcopy(self.model), []
-        for line in self.transaction.commands:
+        model, told = copy.deepcopy(self.model), list[str]()
+        for line in transaction.commands:
             verb, words = words_of(line)
             refusal = model.refusal(verb, words)
             if refusal:
-                return [refused(refusal), *self.undone()]
+                return [refused(refusal), *self.undone(transaction)]
             told += model.do(verb, words)
         self.model, self.transaction = model, None
         return told
 
-    def take_item(self, name):
+    def take_item(self, name: str) -> list[str]:
         """Takes what the interpreter of a session says next, and gives what is told of it."""
         session = self.model.sessions[name]
         if not session.is_up or not (session.waiting or not session.has_banner):
@@ -120,20 +123,20 @@ class Live:
             return [f"ended {name} Ended lost {self.model.end(session, 'Ended')}"]
         [(id, _, completes)] = answered
         for id, answer in self.model.answers(session, answered):
-            self.model.fields[id][2] = answer
+            self.model.show(id, answer)
         session.count, session.waiting = session.count + 1, session.waiting[1:]
         return [f"completed {id} {session.kind.completed}" if completes else f"answered {id}"]
 
-    def child_of(self, told):
+    def child_of(self, told: str) -> str | None:
         """The session whose interpreter may say this next, or nothing."""
         names = (name for name in self.model.sessions if copy.deepcopy(self).take_item(name) == [told])
         return next(names, None)
 
-    def may_group(self, at):
+    def may_group(self, at: int) -> bool:
         """Whether the line at this place, outside of a transaction, may be in a group: it says a command other than `checkpoint`."""
         return self.transaction is None and at < len(self.lines) and words_of(self.lines[at])[0] in VERBS - {"checkpoint"}
 
-    def sheets_of_lines(self):
+    def sheets_of_lines(self) -> Iterator[str]:
         """The worksheets behind the next line, and behind those after it as long as they may be one group with it: which lines were there
         together isn't known."""
         live = copy.deepcopy(self)
@@ -142,7 +145,7 @@ class Live:
             if not (live.may_group(live.at - 1) and live.may_group(live.at)):
                 return
 
-    def next_sheets(self):
+    def next_sheets(self) -> set[str]:
         """The worksheets to which one event more may lead, or one group of lines, or of what several interpreters said."""
         sheets = {self.model.printed(), *self.sheets_of_lines()}
         names = list(self.model.sessions)

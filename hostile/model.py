@@ -4,16 +4,23 @@ A `Model` follows what a run of a script wrote, line by line, and then knows whi
 behind all that was told, and those to which the line that was being done may have led.
 """
 
+from __future__ import annotations
+
 import itertools
 import random
-from collections.abc import Iterable, Sequence
+from collections.abc import Callable, Iterable, Sequence
+
+# What a field shows: the prompt, and the output as it is printed.
+Answer = tuple[str, str]
+# What waits: the field, the input, and whether it is a completion.
+Item = tuple[int, str, bool]
 
 
 class Kind:
     """An interpreter: its text for the shell, how many lines it answers before it ends in the middle of a block (None: all), the
     prompt and the printed output of its answer to a line, behind so many, and what is told of a completion."""
 
-    def __init__(self, shell, most=None, answer=lambda count, given: ("> ", given), completed="bad"):
+    def __init__(self, shell: str, most: int | None = None, answer: Callable[[int, str], Answer] = lambda count, given: ("> ", given), completed: str = "bad") -> None:
         self.shell, self.most, self.answer, self.completed = shell, most, answer, completed
 
 
@@ -71,41 +78,46 @@ class Difference(Exception):
     """The program told or left what the model doesn't allow."""
 
 
-def refused(number):
+def refused(number: int) -> str:
     return f"refused {number} {REFUSALS[number]}"
 
 
 class Session:
-    def __init__(self, kind, tab):
+    def __init__(self, kind: str, tab: bool) -> None:
         self.kind, self.tab = KINDS[kind], tab
         self.is_up = False  # whether a life goes on
         self.has_banner = False
         self.count = 0  # how many items this life has answered
-        self.waiting = []  # (field, input, whether it is a completion)
+        self.waiting: list[Item] = []
 
 
 class Model:
-    def __init__(self, kinds):
+    def __init__(self, kinds: dict[str, str]) -> None:
         self.kinds = kinds  # the kind of an interpreter by the words that start it
-        self.sessions = {}
-        self.order, self.fields, self.next_id = [], {}, 1
+        self.sessions: dict[str, Session] = {}
+        self.order, self.next_id = list[int](), 1
+        self.fields: dict[int, tuple[str, str, Answer | None]] = {}  # the session, the input, and the answer that is shown
 
     # What is printed of a worksheet whose further answers are these.
-    def printed(self, more=()):
-        more = dict(more)
+    def printed(self, more: Iterable[tuple[int, Answer]] = ()) -> str:
+        further: dict[int, Answer | None] = dict(more)
         lines = []
         for id in self.order:
             session, given, answer = self.fields[id]
-            prompt, output = more.get(id, answer) or ("> ", "?")
+            prompt, output = further.get(id, answer) or ("> ", "?")
             lines += [f"#{id} {session}", prompt + given, output]
         return "".join(line + "\n" for line in lines)
 
-    def in_flight(self, id):
+    def show(self, id: int, answer: Answer | None) -> None:
+        session, given, _ = self.fields[id]
+        self.fields[id] = session, given, answer
+
+    def in_flight(self, id: int) -> bool:
         return any((id, False) == (at, completes) for s in self.sessions.values() for at, _, completes in s.waiting)
 
     # The first refusal of a command, or None.
-    def refusal(self, verb, words):
-        field = lambda word: int(word) in self.fields
+    def refusal(self, verb: str, words: list[str]) -> int | None:
+        field: Callable[[str], bool] = lambda word: int(word) in self.fields
         if verb == "session":
             name, flag, *rest = words
             return 5 if not name.isalnum() else 4 if name in self.sessions else 6 if not any(rest) else None
@@ -124,11 +136,11 @@ class Model:
             return self.bad_place(int(words[0]), int(words[1]))
         return 3 if self.in_flight(int(words[0])) else self.bad_input(words[1]) if verb == "set" else None
 
-    def bad_input(self, text):
+    def bad_input(self, text: str) -> int | None:
         return 7 if "\x10" in text or len(text.encode()) > 4095 else None
 
     # A request without a text of its own asks for the input of its field.
-    def bad_request(self, id, cursor, text=None):
+    def bad_request(self, id: int, cursor: int, text: str | None = None) -> int | None:
         session, given, _ = self.fields[id]
         if not self.sessions[session].tab:
             return 12
@@ -136,24 +148,24 @@ class Model:
         fronts = [len(text[:n].encode()) for n in range(len(text) + 1)]
         return self.bad_input(text) or (None if cursor in fronts else 13)
 
-    def bad_place(self, id, after):
+    def bad_place(self, id: int, after: int) -> int | None:
         if after and after not in self.fields:
             return 2
         at = self.order.index(id)
         return 8 if after == id or after == (self.order[at - 1] if at else 0) else None
 
     # Puts a field directly after another one, first for 0.
-    def put(self, id, after):
+    def put(self, id: int, after: int) -> None:
         self.order.insert(self.order.index(after) + 1 if after else 0, id)
 
     # Does a command that isn't refused, and gives what is reported of it.
-    def do(self, verb, words):
+    def do(self, verb: str, words: list[str]) -> list[str]:
         if verb == "session":
             # One whose words are no interpreter is made where the session of that name was refused for lack of memory. It can't be started.
             self.sessions[words[0]] = Session(self.kinds.get(" ".join(words[2:]), "echo"), words[1] == "tab")
         elif verb == "new":
             id, self.next_id = self.next_id, self.next_id + 1
-            self.fields[id] = [words[1], words[2], None]
+            self.fields[id] = words[1], words[2], None
             self.put(id, int(words[0]))
             return [f"field {id}"]
         elif verb == "stop":
@@ -164,12 +176,12 @@ class Model:
             return self.change(verb, int(words[0]), words)
         return ["ok"]
 
-    def change(self, verb, id, words):
-        field = self.fields[id]
+    def change(self, verb: str, id: int, words: list[str]) -> list[str]:
+        session, _, _ = self.fields[id]
         if verb == "set":
-            field[1:] = [words[1], None]
+            self.fields[id] = session, words[1], None
         elif verb == "clear":
-            field[2] = None
+            self.show(id, None)
         elif verb == "remove":
             self.order.remove(id)
             del self.fields[id]
@@ -177,41 +189,41 @@ class Model:
             self.order.remove(id)
             self.put(id, int(words[1]))
         else:
-            self.ask(self.sessions[field[0]], id, verb == "complete")
+            self.ask(self.sessions[session], id, verb == "complete")
             return ["asked"]
         return ["ok"]
 
-    def ask(self, session, id, completes):
+    def ask(self, session: Session, id: int, completes: bool) -> None:
         if not session.is_up:
             session.is_up, session.has_banner, session.count = True, False, 0
         if not completes:
-            self.fields[id][2] = None
+            self.show(id, None)
         session.waiting.append((id, self.fields[id][1], completes))
 
     # Ends a life, and gives how many items were lost. The first, where it is a line, keeps the reason.
-    def end(self, session, reason):
+    def end(self, session: Session, reason: str) -> int:
         lost = len(session.waiting)
         for id, shown in self.reasons(session.waiting, reason):
-            self.fields[id][2] = shown
+            self.show(id, shown)
         session.is_up, session.waiting = False, []
         return lost
 
     # What the end of a life shows that leaves these items: of the first alone, and only of a line.
-    def reasons(self, items, reason):
+    def reasons(self, items: list[Item], reason: str) -> list[tuple[int, Answer]]:
         return [(id, ("> ", f"? {reason}")) for id, _, completes in items[:1] if not completes]
 
     # The items of a session that its interpreter answers in a wait.
-    def answered(self, session):
+    def answered(self, session: Session) -> list[Item]:
         most = session.kind.most
         return session.waiting if most is None else session.waiting[: most - session.count]
 
     # The answers of these items, by their fields: of lines alone.
-    def answers(self, session, items):
-        items = enumerate(items, session.count)
-        return [(id, session.kind.answer(count, given)) for count, (id, given, completes) in items if not completes]
+    def answers(self, session: Session, items: list[Item]) -> list[tuple[int, Answer]]:
+        counted = enumerate(items, session.count)
+        return [(id, session.kind.answer(count, given)) for count, (id, given, completes) in counted if not completes]
 
     # What is reported of a session in a wait, in order.
-    def told_in_wait(self, name, session):
+    def told_in_wait(self, name: str, session: Session) -> list[str]:
         told = [] if session.has_banner else [f"banner {name}"]
         answered = self.answered(session)
         completed = session.kind.completed
@@ -220,8 +232,8 @@ class Model:
         return told + [f"ended {name} Ended lost {rest}"] * (rest > 0)
 
     # Which worksheets a wait that reported so much may have led to: of each session some of its first lines are answered.
-    def sheets_in_wait(self, told):
-        fronts = []
+    def sheets_in_wait(self, told: list[str]) -> set[str]:
+        fronts: list[list[list[tuple[int, Answer]]]] = []
         for session in self.sessions.values():
             answered = self.answered(session)
             lines = self.answers(session, answered)
@@ -230,13 +242,13 @@ class Model:
             fronts.append([lines[:n] for n in range(least, len(lines) + 1)])
         return {self.printed(itertools.chain(*chosen)) for chosen in itertools.product(*fronts)}
 
-    def wait(self):
+    def wait(self) -> None:
         for session in self.sessions.values():
             if not session.waiting:
                 continue
             answered = self.answered(session)
             for id, answer in self.answers(session, answered):
-                self.fields[id][2] = answer
+                self.show(id, answer)
             session.has_banner, session.count = True, session.count + len(answered)
             session.waiting = session.waiting[len(answered) :]
             if session.waiting:
@@ -247,7 +259,7 @@ EDITS = {"session", "new", "set", "remove", "move", "clear"}
 VERBS = EDITS | {"eval", "complete", "stop", "checkpoint"}
 
 
-def words_of(line):
+def words_of(line: str) -> tuple[str, list[str]]:
     """The verb and the words of a line that `scripts` makes."""
     verb, _, rest = line.partition(" ")
     parts = {"session": 2, "new": 2, "set": 1, "move": 1, "complete": 2}.get(verb, 0)
@@ -262,7 +274,7 @@ class Followed:
         self.sheets, self.is_whole, self.refusals = sheets, is_whole, refusals
 
 
-def waited(model, told, number):
+def waited(model: Model, told: list[str], number: int) -> bool:
     """Whether all that a `wait` tells was told, which is taken away then."""
     wanted = [model.told_in_wait(*item) for item in model.sessions.items() if item[1].waiting]
     count = sum(map(len, wanted))
@@ -312,14 +324,14 @@ def follow(script: Sequence[str], output: Iterable[str], kinds: dict[str, str], 
     return Followed({model.printed()}, True, refusals)
 
 
-def is_skipped(line):
+def is_skipped(line: str) -> bool:
     return line == "" or line.startswith("#")
 
 
 # What the worksheet may be where a run told nothing of the last of these lines, after which the model stands: without it, or with it.
 # Commands one after another that only change the worksheet are a group, of which all is there or nothing, and all where a reply of it
 # was told, unless memory was refused for the line after it. (A script has fewer than a group may have.)
-def sheets_in_group(model, before, done, later, memory):
+def sheets_in_group(model: Model, before: str, done: Sequence[str], later: Sequence[str], memory: bool) -> set[str]:
     commands = [line for line in done if not is_skipped(line)]
     if words_of(commands[-1])[0] not in EDITS:
         return {before, model.printed()}
@@ -334,9 +346,9 @@ def sheets_in_group(model, before, done, later, memory):
 
 
 # A start for which there was no memory ends its life at once.
-def start_refused(model, words, told):
+def start_refused(model: Model, words: list[str], told: list[str]) -> int:
     name = model.fields[int(words[0])][0] if int(words[0]) in model.fields else None
-    if told[:1] != [f"ended {name} StartRefused lost 1"]:
+    if name is None or told[:1] != [f"ended {name} StartRefused lost 1"]:
         return 0
     model.end(model.sessions[name], "StartRefused")
     del told[0]
@@ -344,9 +356,9 @@ def start_refused(model, words, told):
 
 
 # What was reported of a wait so far must be the first of what is reported of each session, merged in some way.
-def merge(wanted, told, number):
+def merge(wanted: list[list[str]], told: list[str], number: int) -> None:
     names = {line: n for n, lines in enumerate(wanted) for line in lines}
-    parts = [[] for _ in wanted]
+    parts: list[list[str]] = [[] for _ in wanted]
     for line in told:
         if line in names:
             parts[names[line]].append(line)
@@ -362,7 +374,7 @@ def scripts(rng: random.Random, length: int, kinds: dict[str, str], completes: b
     lines += [f"new 0 {name} first of {name}" for name in names]
     made = len(names)
     for _ in range(length):
-        some = lambda: rng.randint(0 if rng.random() < 0.05 else 1, made + (rng.random() < 0.05))
+        some: Callable[[], int] = lambda: rng.randint(0 if rng.random() < 0.05 else 1, made + (rng.random() < 0.05))
         after = rng.choice([0, some()])
         text = "".join(rng.choices("abcxyz 0123456789+-*/=()[]{}?#\\\"\t", k=rng.randint(0, 12))).replace("\t", "t")
         text += rng.choice(["", "é", "∑", "x" * rng.randint(1, 300)])

@@ -13,7 +13,7 @@ from model import Difference
 from program import ROOT
 
 sys.path.append(f"{ROOT}/clients/notebook/tests")
-import chromium  # noqa: E402
+import chromium as chromium  # noqa: E402
 
 HARMED = "[window.harmed ?? 0, document.title === '1' ? 1 : 0]"
 DRAWN = "document.readyState === 'complete' && [...document.images].every((one) => one.complete)"

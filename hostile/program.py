@@ -1,11 +1,13 @@
 """The program under test, in a folder of its own that goes when it is left."""
 
+from __future__ import annotations
+
 import os
 import shutil
 import subprocess
 import tempfile
 import time
-from typing import Any
+from typing import Callable
 
 from model import KINDS, Difference
 
@@ -52,8 +54,10 @@ class Program:
         subprocess.run([self.path, "create", sheet], check=True)
         return sheet
 
-    def run(self, sheet: str, script: bytes, **more: Any) -> subprocess.CompletedProcess[bytes]:
-        return subprocess.run([self.path, "run", sheet], input=script, capture_output=True, **more)
+    def run(
+        self, sheet: str, script: bytes, env: dict[str, str] | None = None, preexec_fn: Callable[[], None] | None = None
+    ) -> subprocess.CompletedProcess[bytes]:
+        return subprocess.run([self.path, "run", sheet], input=script, capture_output=True, env=env, preexec_fn=preexec_fn)
 
     def told(self, *words: str) -> tuple[int, bytes, bytes]:
         """The status of a task, and what it wrote on its two streams."""

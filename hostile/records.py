@@ -1,5 +1,7 @@
 """Records of a worksheet's file, by docs/trust/FORMAT.md, as they are written."""
 
+from __future__ import annotations
+
 import struct
 from collections.abc import Iterable
 
