@@ -11,7 +11,7 @@ use std::io::{BufWriter, Write};
 /// stream held then, and in which state the disk was. Each byte after these was written later. Code that is generic over the stream has
 /// the relation by that call alone. A stamp leaves no trace in its stream, so the relations of the streams below hold of everything.
 pub trait Stamped: Write {
-    ghost use Rattle.std.specs.Prelude.{List, Option, ℕ};
+    ghost use Rattle.std.specs.Prelude.{◌≡◌, List, Option, false, ℕ};
     ghost use Rattle.disk_model.specs.Disk.{DiskView};
 
     /// There was a moment at which the stream held these bytes, and the disk was in this state.
@@ -21,8 +21,9 @@ pub trait Stamped: Write {
     fn stamp<D: Disk>(&self, host: &Host<D>)
         ensures held { held (Self.contents self.now) host.now.store.disk };
 
-    /// The same over the disk of a store.
+    /// The same over the disk of a store that writes at once, so that what it keeps is on its disk.
     fn stamp_store<D: Disk>(&self, store: &Store<D>)
+        requires at_once { store.now.gathers ≡ false }
         ensures held { held (Self.contents self.now) store.now.disk };
 }
 

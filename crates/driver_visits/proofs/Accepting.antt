@@ -151,16 +151,21 @@ module _ (held : Option (List ℕ) → DiskView → Type 0) (text : Option (List
       left = left;
     }
 
+    -- the writer failed
+    unreported : (cases : List Case) (why : RunFault) → why ≡ fault.Output → FiledAll (filing held ops now back) text cases → Reported (Err (checks.Run why))
+    unreported cases why is filed = record {
+      cases = cases;
+      wrote = λ written. absurd (written (ap (λ (x : RunFault). Err (checks.Run x)) is));
+      left = all-left cases filed;
+    }
+
     broke-off : (why : RunFault) → AcceptLeft (to_accept o chosen) sheet (passage c d text b) (filing held ops now back) why → Reported (Err (checks.Run why))
     broke-off why (ends.halted cases led wrote holds) = wrote-front cases (checks.Run why) wrote (all-left cases holds)
     broke-off why (ends.unremembered cases is led wrote holds) = wrote-front cases (checks.Run why) wrote (all-left cases holds)
     broke-off why (ends.full cases last one is led taken wrote holds place) = wrote-front cases (checks.Run why) wrote (all-left cases holds)
     broke-off why (ends.broken cases last one is led taken wrote holds) = wrote-front cases (checks.Run why) wrote (but-left cases one (one_answer last one taken) holds)
-    broke-off why (ends.unwritten cases is led holds) = record {
-      cases = cases;
-      wrote = λ written. absurd (written (ap (λ (x : RunFault). Err (checks.Run x)) is));
-      left = all-left cases holds;
-    }
+    broke-off why (ends.unwritten cases last is led holds) = unreported (cases ++ last ∷ []) why is holds
+    broke-off why (ends.uncounted cases is led all holds) = unreported cases why is holds
 
     pub came : (nothing : Type 0) → (nothing → Appends text b []) → (counted : Result Counts RunFault)
         → SheetAccepts (to_accept o chosen) sheet (passage c d text b) nothing (filing held ops now back) counted → Reported (answer_as counted)

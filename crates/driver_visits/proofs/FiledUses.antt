@@ -1,7 +1,7 @@
 -- What an acceptance leaves, after whatever uses of the program there were.
 use Rattle.std.proofs.Common.{◌∙◌, List, [], ◌∷◌, ◌++◌, Option, ℕ, IsTrue, ap, append-nil, append_assoc, refl, subst, sym}
 use Rattle.std.specs.Prelude.{Result}
-use Rattle.disk_model.specs.Disk.{DiskView, Image, IsImage, bytes_on}
+use Rattle.disk_model.specs.Disk.{DiskView, Image, InModel, IsImage, Looks, SameDisk, bytes_on}
 use Rattle.disk_model.specs.inside.Moments.{started, weakens}
 use Rattle.journal.specs.declared.journal.OpenFault.{OpenFault}
 use Rattle.worksheet.specs.declared.op.Op.{Op}
@@ -40,6 +40,12 @@ reported_after x text put front [] one others all = subst (λ (l : List Case). R
 reported_after x text put front (c ∷ before) one others all =
     subst (λ (l : List Case). ReportedAfter x text put l one) (append_assoc front (c ∷ []) before) (reported_after x text put (front ++ c ∷ []) before one others all.1)
 
+-- an acceptance leaves a disk that keeps the model
+kept-by : (held : Option (List ℕ) → DiskView → Type 0) (text : Option (List ℕ)) (disk back : DiskView) → IsTrue disk.keeps_model → (cases : List Case)
+    → LeftByAcceptance (acceptance held disk back) text cases → IsTrue back.keeps_model
+kept-by held text disk back model cases (only_read reads) = subst IsTrue (sym reads.same.keeps_model) model
+kept-by held text disk back model cases (put_in ops put f looks same more holds order) = subst IsTrue (sym same.keeps_model) (subst IsTrue (sym f.same.keeps_model) model)
+
 module _ {D : Type 0} (held : Option (List ℕ) → DiskView → Type 0) (text : Option (List ℕ)) (disk back : DiskView) (opened : Result HostView (OpenFault D)) (hosts : HostsInTurn) (one : OneSheet) (model : IsTrue disk.keeps_model)
     (image : IsTrue back.keeps_model → IsImage back.history.now (bytes_on back)) (after : OpensAfterActs back opened) (e : EarlierUses disk) where
   opens_as : (acts : List Act) → IsTrue back.keeps_model → Uses disk.room e.image acts (bytes_on back) → OpensSo disk.room e.ops e.image (bytes_on back) acts opened
@@ -47,14 +53,11 @@ module _ {D : Type 0} (held : Option (List ℕ) → DiskView → Type 0) (text :
 
   -- what was reported was on the disk
   before-text : (ops put : List Op) (f : Files (bytes_on disk) disk ops put back) (before : List Case) (case : Case) → ReportedAfter (filing held ops f.now back) text put before case
-      → AnswersBeforeText (acceptance held disk back) text e put before case
+      → AnswersBeforeText e (filing held ops f.now back) text put before case
   before-text ops put f before case was =
       let first = accepted (before ++ case ∷ []) in
       record {
-        printed = was.printed;
-        there = was.disk;
-        begins = was.begins;
-        held = was.held;
+        was = was;
         leaves = λ crash crashed. left_with hosts one disk e (filed put first) crash (acts.filing disk back ops f was.disk.history
             (λ keeps. weakens (IsAmong (ops ++ first) was.rest) (HasFirst ops put first) was.disk.history back.history
             (λ i among. subst (λ (l : List Op). HasFirst ops l first i) (sym was.split) (has_first ops first was.rest i among)) (was.since keeps)) crashed no_use);
@@ -63,13 +66,13 @@ module _ {D : Type 0} (held : Option (List ℕ) → DiskView → Type 0) (text :
   pub leaves_answers : (cases : List Case) → LeftByAcceptance (acceptance held disk back) text cases → LeavesAnswers (acceptance held disk back) text opened e cases
   leaves_answers cases (only_read reads) =
       let kept : IsTrue back.keeps_model = subst IsTrue (sym reads.same.keeps_model) model in
-      as_it_was (opens_as e.acts kept (subst (λ (i : Image). Uses disk.room e.image e.acts i) (sym (reads.looks model).content) e.came))
+      as_it_was reads (opens_as e.acts kept (subst (λ (i : Image). Uses disk.room e.image e.acts i) (sym (reads.looks model).content) e.came))
   leaves_answers cases (put_in ops put f looks same more holds order) =
       let now : IsTrue f.now.keeps_model = subst IsTrue (sym f.same.keeps_model) model in
       let kept : IsTrue back.keeps_model = subst IsTrue (sym same.keeps_model) now in
       let reported = accepted cases in
       let at_end = λ (keeps : IsTrue f.now.keeps_model). started (HasFirst ops put reported) back.history (holds keeps) in
-      with_answers put f.now looks f.answers more
+      with_answers ops put f looks more
       (λ crash crashed. left_with hosts one disk e (filed put []) crash (acts.filing disk back ops f f.now.history f.moments crashed no_use))
       (λ before case others split. before-text ops put f before case
       (reported_after (filing held ops f.now back) text put [] before case others (subst (EachReported (filing held ops f.now back) text put []) split order)))
@@ -78,12 +81,12 @@ module _ {D : Type 0} (held : Option (List ℕ) → DiskView → Type 0) (text :
       (used_on disk.room e.image (bytes_on disk) (bytes_on back) e.acts (filed put reported ∷ []) e.came
       (acts.filing disk back ops f back.history at_end (crashed_now back.history (bytes_on back) (image kept)) no_use)))
 
-pub accepts_then_opens : {D : Type 0} (held : Option (List ℕ) → DiskView → Type 0) (text written : Option (List ℕ)) (disk back : DiskView) (answer : Result Counts CheckFault) (opened : Result HostView (OpenFault D)) → HostsInTurn → OneSheet → IsTrue disk.keeps_model
-    → (IsTrue back.keeps_model → IsImage back.history.now (bytes_on back)) → OpensAfterActs back opened → ReportedAcceptance (acceptance held disk back) text written answer
-    → AcceptsThenOpens held text written disk answer opened
-accepts_then_opens held text written disk back answer opened hosts one model image after reported = record {
-  cases = reported.cases;
-  wrote = reported.wrote;
+pub accepts_then_opens : {D : Type 0} (held : Option (List ℕ) → DiskView → Type 0) (text written : Option (List ℕ)) (disk back later : DiskView) (answer : Result Counts CheckFault) (opened : Result HostView (OpenFault D)) → HostsInTurn → OneSheet → IsTrue disk.keeps_model
+    → (IsTrue back.keeps_model → IsImage back.history.now (bytes_on back)) → OpensAfterActs back opened → SameDisk back later → InModel back (Looks back.history later.history)
+    → ReportedAcceptance (acceptance held disk back) text written answer → AcceptsThenOpens (acceptance held disk later) text written answer opened
+accepts_then_opens held text written disk back later answer opened hosts one model image after same looks reported = record {
   back = back;
+  on = record { same = same; looks = looks (kept-by held text disk back model reported.cases reported.left) };
+  reported = reported;
   leaves = λ e. leaves_answers held text disk back opened hosts one model image after e reported.cases reported.left;
 }

@@ -1,6 +1,6 @@
 -- What a run leaves, after whatever invocations there were.
-use Rattle.std.proofs.Common.{◌≡◌, ◌≤◌, List, [], ◌∷◌, ◌++◌, refl, sym, subst, IsTrue, None, Option, Some, ℕ}
-use Rattle.std.specs.Prelude.{IfSome, Result, length}
+use Rattle.std.proofs.Common.{◌≡◌, ◌≤◌, List, [], ◌∷◌, ◌++◌, refl, sym, subst, IsTrue, ℕ}
+use Rattle.std.specs.Prelude.{Result, length}
 use Rattle.std.proofs.Math.Nat.{le_refl}
 use Rattle.disk_model.specs.Disk.{AtMoment, DiskState, DiskView, History, Image, IsImage, Looks, bytes_on}
 use Rattle.journal.specs.declared.journal.OpenFault.{OpenFault}
@@ -12,6 +12,7 @@ use Rattle.offline_programs.specs.declared.fault.RunFault.{RunFault}
 use Rattle.recovery.specs.Laws.{OneSheet}
 use Rattle.worksheet.specs.Ops.{sheet_of}
 use Rattle.disk_model.specs.declared.crash.Choice.{Choice}
+use Rattle.disk_model.specs.declared.memory.MemoryDisk.{MemoryDisk}
 use Rattle.theorem.specs.Story.{CrashedSince}
 use Rattle.theorem.specs.Acts.{Act, OpensAfterActs, OpensSo, Uses, filing, no_use, turns_of}
 use Rattle.theorem.proofs.Filing.{all_did}
@@ -23,8 +24,10 @@ use Rattle.driver.specs.Place.{Rules}
 use Rattle.driver.specs.Laws.{trace}
 use Rattle.driver.specs.Runs.{left_at_end}
 use Rattle.driver.specs.Over.{Over, ProgramParts, RanOver, first_place, not_opened, program_parts, ran_over}
+use Rattle.driver_visits.specs.declared.crashed.AfterCrash.{AfterCrash}
+use Rattle.driver_visits.specs.declared.crashed.AfterCrash.TheVariants as crashed_to
 use Rattle.driver_visits.specs.Earlier.{CrashesLeave, EarlierUses, LeftWith}
-use Rattle.driver_visits.specs.Runs.{LeavesPrefix, LeavesPrinted, OpeningLeaves, OpensAfterCrash, OpensCrashed, RunsThenCrashes, RunsThenOpens, not_begun, ran, run_reporting, run_act, unknown_reports, unopened, was_cut}
+use Rattle.driver_visits.specs.Runs.{CrashOpens, LeavesPrefix, LeavesPrinted, OpenedOn, OpeningLeaves, OpensAfterCrash, OpensCrashed, RunsThenCrashes, RunsThenOpens, not_begun, ran, run_reporting, run_act, unknown_reports, unopened, was_cut, with_disk}
 use Rattle.driver_visits.specs.Visits.{turn_of}
 use Rattle.driver_visits.proofs.Parts.{Parted, parted}
 use Rattle.driver_visits.proofs.Visiting.{durable_at, visit_by}
@@ -79,10 +82,10 @@ module _ {A C K : Type 0} (hosts : HostsInTurn) (one : OneSheet) (R : Rules A C 
 abbrev pub crashed_now : (h : History) (i : Image) → IsImage h.now i → CrashedSince h h i
 crashed_now h i image = record { moment = length h.past; state = h.now; at = record { later = []; earlier = h.past; states = refl; moment_is = refl }; since = le_refl (length h.past); leaves = image }
 
-module _ {A C K D : Type 0} (hosts : HostsInTurn) (one : OneSheet) (R : Rules A C K) (first : ProgramParts A C K) (sources : C) (sink : K) (agenda : A)
+module _ {A C K D : Type 0} (hosts : HostsInTurn) (one : OneSheet) (R : Rules A C K) (first back : ProgramParts A C K)
     (opened : Result HostView (OpenFault D)) (model : IsTrue first.disk.keeps_model) where
   abbrev given_back : DiskView → ProgramParts A C K
-  given_back disk = program_parts disk sources sink agenda
+  given_back disk = with_disk disk back
 
   leaves_prefix : (disk : DiskView) (answer : Result (Unit {0}) RunFault) (it : RanOver R first (given_back disk) answer) → IsTrue disk.keeps_model → IsImage disk.history.now (bytes_on disk)
       → OpensAfterActs disk opened → (e : EarlierUses first.disk) → LeavesPrefix R first (given_back disk) answer opened it e
@@ -103,9 +106,9 @@ module _ {A C K D : Type 0} (hosts : HostsInTurn) (one : OneSheet) (R : Rules A 
       after kept first.disk.room e.ops e.image e.acts e.allowed e.found (subst (λ (i : Image). Uses first.disk.room e.image e.acts i) (sym looks.content) e.came)
 
   pub runs_then_opens : (disk : DiskView) (answer : Result (Unit {0}) RunFault) → Over R first (given_back disk) answer → IsTrue disk.keeps_model → IsImage disk.history.now (bytes_on disk)
-      → OpensAfterActs disk opened → RunsThenOpens R first sources sink agenda opened answer
-  runs_then_opens disk answer (ran_over reported it) kept image after = ran reported disk it (leaves_prefix disk reported it kept image after)
-  runs_then_opens disk answer (not_opened why was) kept image after = unopened why disk was
+      → OpensAfterActs disk opened → OpenedOn disk back.disk → RunsThenOpens R first back opened answer
+  runs_then_opens disk answer (ran_over reported it) kept image after on = ran reported disk on it (leaves_prefix disk reported it kept image after)
+  runs_then_opens disk answer (not_opened why was) kept image after on = unopened why disk on was
       (λ restarted crash crashed. opening_leaves (bytes_on first.disk) first.disk disk crash restarted (was.looks model) crashed)
       (still_opens disk kept (was.looks model) after)
 
@@ -134,16 +137,21 @@ module _ {A C K D : Type 0} (hosts : HostsInTurn) (one : OneSheet) (R : Rules A 
         );
   }
 
-pub runs_then_crashes : {A C K D : Type 0} → HostsInTurn → OneSheet → (R : Rules A C K) (first : ProgramParts A C K) (sources : C) (sink : K) (agenda : A) (disk : DiskView) (answer : Result (Unit {0}) RunFault)
-    → IsTrue first.disk.keeps_model → Over R first (program_parts disk sources sink agenda) answer → (choice : Choice) (opened : Option (Result HostView (OpenFault D)))
-    → IfSome opened (OpensCrashed choice disk) → IfSome opened (λ o. RunsThenCrashes R first sources sink agenda choice o answer)
-runs_then_crashes hosts one R first sources sink agenda disk answer model over choice None left = tt
-runs_then_crashes hosts one R first sources sink agenda disk answer model (ran_over reported it) choice (Some opened) left =
-    was_cut reported disk left.state (bytes_on left.crash) it left.at left.named left.image
-    (λ e. opens_after_crash hosts one R first (program_parts disk sources sink agenda) reported it model choice.moment left.state left.at left.crash left.keeps_model left.image opened left.opens e)
-runs_then_crashes hosts one R first sources sink agenda disk answer model (not_opened why was) choice (Some opened) left =
-    not_begun why disk left.state (bytes_on left.crash) was left.at left.named left.image
+pub runs_then_crashes : {A C K D : Type 0} → HostsInTurn → OneSheet → (R : Rules A C K) (first last : ProgramParts A C K) (answer : Result (Unit {0}) RunFault) → IsTrue first.disk.keeps_model → Over R first last answer
+    → (choice : Choice) (opened : Result HostView (OpenFault D)) → OpensCrashed choice last.disk opened → RunsThenCrashes R first last choice opened answer
+runs_then_crashes hosts one R first last answer model (ran_over reported it) choice opened left =
+    was_cut reported left.state (bytes_on left.crash) it left.at left.named left.image
+    (λ e. opens_after_crash hosts one R first last reported it model choice.moment left.state left.at left.crash left.keeps_model left.image opened left.opens e)
+runs_then_crashes hosts one R first last answer model (not_opened why was) choice opened left =
+    not_begun why left.state (bytes_on left.crash) was left.at left.named left.image
     (λ e restarted since.
-    let same : bytes_on left.crash ≡ bytes_on first.disk = opening_leaves (bytes_on first.disk) first.disk disk (bytes_on left.crash) restarted (was.looks model)
+    let same : bytes_on left.crash ≡ bytes_on first.disk = opening_leaves (bytes_on first.disk) first.disk last.disk (bytes_on left.crash) restarted (was.looks model)
     (record { moment = choice.moment; state = left.state; at = left.at; since = since; leaves = left.image }) in
     left.opens left.keeps_model first.disk.room e.ops e.image e.acts e.allowed e.found (subst (λ (i : Image). Uses first.disk.room e.image e.acts i) (sym same) e.came))
+
+-- what is opened after a crash is so where this follows
+pub crash_opens : (choice : Choice) (disk : DiskView) (So Then : Result HostView (OpenFault MemoryDisk) → Type 0) → ((opened : Result HostView (OpenFault MemoryDisk)) → So opened → Then opened)
+    → (came : AfterCrash) → CrashOpens choice disk So came → CrashOpens choice disk Then came
+crash_opens choice disk So Then follows crashed_to.NotReached few = few
+crash_opens choice disk So Then follows crashed_to.NoMemory many = many
+crash_opens choice disk So Then follows (crashed_to.Opened opened) so = follows opened so

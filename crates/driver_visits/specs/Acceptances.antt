@@ -23,7 +23,7 @@ AtMostOneMore put reported = (put ≡ reported) ⊎ ((last : Op) × (put ≡ rep
 
 -- What an acceptance that reported these cases left of a disk that keeps the model. It couldn't open it and made reads alone. Or it opened it, which
 -- changed no byte, and put answers in, those that it reported and at most one more. Each was on the disk before it was reported. When it had ended each image
--- that a crash may leave has all of them.
+-- that a crash may leave has all that it reported.
 pub data LeftByAcceptance (x : Acceptance) (text : Option (List ℕ)) : List Case → Type 0 where
   only_read : OnlyRead x.disk x.back → LeftByAcceptance x text []
   put_in : {cases : List Case} (ops put : List Op) → (f : Files (bytes_on x.disk) x.disk ops put x.back) → Looks x.disk.history f.now.history

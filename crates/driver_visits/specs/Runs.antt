@@ -1,11 +1,12 @@
 -- One run of a program, after whatever uses of it there were: what a crash at any moment of it leaves, and what opens when it has ended. So the contract
 -- of `run_over`, the laws of this crate and the theorem are one statement. (docs/trust/THEOREM.md; premises A1 to A7 in the README of crate `theorem`.)
-use Rattle.std.specs.Prelude.{◌≡◌, ◌≤◌, ℕ, IsTrue, List, [], ◌∷◌, ◌++◌, length, true, Result, Err}
-use Rattle.disk_model.specs.Disk.{AtMoment, DiskState, DiskView, History, Image, IsImage, IsRestarted, bytes_on}
+use Rattle.std.specs.Prelude.{◌≡◌, ◌<◌, ◌≤◌, ℕ, IsTrue, List, [], ◌∷◌, ◌++◌, length, true, Result, Err}
+use Rattle.disk_model.specs.Disk.{AtMoment, DiskState, DiskView, History, Image, IsImage, IsRestarted, Looks, SameDisk, bytes_on}
 use Rattle.journal.specs.declared.journal.OpenFault.{OpenFault}
 use Rattle.journal.specs.declared.opening.OpenCause.{OpenCause}
 use Rattle.disk_model.specs.Crash.{image_named}
 use Rattle.disk_model.specs.declared.crash.Choice.{Choice}
+use Rattle.disk_model.specs.declared.memory.MemoryDisk.{MemoryDisk}
 use Rattle.host_events.specs.declared.event.Event.{Event}
 use Rattle.session_engine.specs.Host.{HostView}
 use Rattle.host_laws.specs.Turns.{HostTurn}
@@ -20,6 +21,8 @@ use Rattle.driver.specs.Place.{RunPlace, Rules, Tries}
 use Rattle.driver.specs.Steps.{Run}
 use Rattle.driver.specs.Laws.{trace}
 use Rattle.driver.specs.Over.{ProgramParts, RanOver, WasNotOpened, first_place, program_parts}
+use Rattle.driver_visits.specs.declared.crashed.AfterCrash.{AfterCrash}
+use Rattle.driver_visits.specs.declared.crashed.AfterCrash.TheVariants as left
 use Rattle.driver_visits.specs.Visits.{turn_of}
 use Rattle.driver_visits.specs.Earlier.{CrashesLeave, EarlierUses}
 
@@ -61,13 +64,22 @@ pub record LeavesPrefix {A C K D : Type 0} (R : Rules A C K) (first last : Progr
   pub ended : CrashesLeave first.disk e (run_act (turn_of it.steps unreported)) last.disk.history last.disk.history
   pub opens : OpensSo first.disk.room e.ops e.image (bytes_on last.disk) (e.acts ++ run_act (turn_of it.steps unreported) ∷ []) opened
 
+-- A disk was opened, which left that and no image that is new.
+pub record OpenedOn (disk later : DiskView) : Type 0 where
+  pub same : SameDisk disk later
+  pub looks : Looks disk.history later.history
+
+-- what was given back, with the disk as it was then
+abbrev pub with_disk : {A C K : Type 0} → DiskView → ProgramParts A C K → ProgramParts A C K
+with_disk disk back = program_parts disk back.sources back.sink back.agenda
+
 -- What a run over a disk, and an opening after it, came to: it ran, and leaves that; or it didn't open the worksheet, left what was there, and that is
--- what is opened, unless it fails again.
-pub data RunsThenOpens {A C K D : Type 0} (R : Rules A C K) (first : ProgramParts A C K) (sources : C) (sink : K) (agenda : A) (opened : Result HostView (OpenFault D)) : Result (Unit {0}) RunFault → Type 0 where
-  ran : (answer : Result (Unit {0}) RunFault) (disk : DiskView) (it : RanOver R first (program_parts disk sources sink agenda) answer)
-      → ((e : EarlierUses first.disk) → LeavesPrefix R first (program_parts disk sources sink agenda) answer opened it e) → RunsThenOpens R first sources sink agenda opened answer
-  unopened : (why : OpenCause) (disk : DiskView) → WasNotOpened first (program_parts disk sources sink agenda) why → OpeningLeaves first.disk disk.history
-      → ((e : EarlierUses first.disk) → OpensSo first.disk.room e.ops e.image (bytes_on disk) e.acts opened) → RunsThenOpens R first sources sink agenda opened (Err (fault.Open why))
+-- what is opened, unless it fails again. What is given back has the disk as the opening left it.
+pub data RunsThenOpens {A C K D : Type 0} (R : Rules A C K) (first back : ProgramParts A C K) (opened : Result HostView (OpenFault D)) : Result (Unit {0}) RunFault → Type 0 where
+  ran : (answer : Result (Unit {0}) RunFault) (disk : DiskView) → OpenedOn disk back.disk → (it : RanOver R first (with_disk disk back) answer)
+      → ((e : EarlierUses first.disk) → LeavesPrefix R first (with_disk disk back) answer opened it e) → RunsThenOpens R first back opened answer
+  unopened : (why : OpenCause) (disk : DiskView) → OpenedOn disk back.disk → WasNotOpened first (with_disk disk back) why → OpeningLeaves first.disk disk.history
+      → ((e : EarlierUses first.disk) → OpensSo first.disk.room e.ops e.image (bytes_on disk) e.acts opened) → RunsThenOpens R first back opened (Err (fault.Open why))
 
 -- A crash by this choice left an image of a disk, and this was opened on a disk that holds it: what the theorem says.
 pub record OpensCrashed {D : Type 0} (choice : Choice) (disk : DiskView) (opened : Result HostView (OpenFault D)) : Type 0 where
@@ -88,14 +100,21 @@ pub record OpensAfterCrash {A C K D : Type 0} (R : Rules A C K) (first last : Pr
       → (p : LeavesPrinted R first last answer it e done r)
       × (length p.there.disk.history.past ≤ moment → OpensSo first.disk.room e.ops e.image after (e.acts ++ run_reporting it.steps p.unreported done ∷ []) opened)
 
+-- What is opened of a disk after a crash by this choice: nothing where the disk saw fewer calls than that; where it saw as many that is opened of which this
+-- is so, but where memory is refused.
+abbrev pub CrashOpens : Choice → DiskView → (Result HostView (OpenFault MemoryDisk) → Type 0) → AfterCrash → Type 0
+CrashOpens choice disk So left.NotReached = length disk.history.past < choice.moment
+CrashOpens choice disk So left.NoMemory = choice.moment ≤ length disk.history.past
+CrashOpens choice disk So (left.Opened opened) = So opened
+
 -- A run over a disk was answered so, a crash by this choice left this image of the disk, and that was opened.
-pub data RunsThenCrashes {A C K D : Type 0} (R : Rules A C K) (first : ProgramParts A C K) (sources : C) (sink : K) (agenda : A) (choice : Choice) (opened : Result HostView (OpenFault D)) : Result (Unit {0}) RunFault → Type 0 where
-  was_cut : (answer : Result (Unit {0}) RunFault) (disk : DiskView) (state : DiskState) (after : Image) (it : RanOver R first (program_parts disk sources sink agenda) answer)
-      → AtMoment choice.moment disk.history state → after ≡ image_named choice.fill choice.grown state → IsImage state after
-      → ((e : EarlierUses first.disk) → OpensAfterCrash R first (program_parts disk sources sink agenda) answer it choice.moment after opened e)
-      → RunsThenCrashes R first sources sink agenda choice opened answer
+pub data RunsThenCrashes {A C K D : Type 0} (R : Rules A C K) (first last : ProgramParts A C K) (choice : Choice) (opened : Result HostView (OpenFault D)) : Result (Unit {0}) RunFault → Type 0 where
+  was_cut : (answer : Result (Unit {0}) RunFault) (state : DiskState) (after : Image) (it : RanOver R first last answer)
+      → AtMoment choice.moment last.disk.history state → after ≡ image_named choice.fill choice.grown state → IsImage state after
+      → ((e : EarlierUses first.disk) → OpensAfterCrash R first last answer it choice.moment after opened e)
+      → RunsThenCrashes R first last choice opened answer
   -- It didn't open the worksheet. A crash while it tried to leaves what was there, on a disk that was restarted, and that is what is opened.
-  not_begun : (why : OpenCause) (disk : DiskView) (state : DiskState) (after : Image) → WasNotOpened first (program_parts disk sources sink agenda) why
-      → AtMoment choice.moment disk.history state → after ≡ image_named choice.fill choice.grown state → IsImage state after
+  not_begun : (why : OpenCause) (state : DiskState) (after : Image) → WasNotOpened first last why
+      → AtMoment choice.moment last.disk.history state → after ≡ image_named choice.fill choice.grown state → IsImage state after
       → ((e : EarlierUses first.disk) → IsRestarted (bytes_on first.disk) first.disk → length first.disk.history.past ≤ choice.moment
-      → OpensSo first.disk.room e.ops e.image after e.acts opened) → RunsThenCrashes R first sources sink agenda choice opened (Err (fault.Open why))
+      → OpensSo first.disk.room e.ops e.image after e.acts opened) → RunsThenCrashes R first last choice opened (Err (fault.Open why))

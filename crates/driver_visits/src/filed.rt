@@ -1,6 +1,8 @@
 //! One acceptance, and an opening after it.
 ghost use Rattle.disk_model.specs.Disk.{InModel};
 ghost use Rattle.driver_visits.specs.Filed.{AcceptsThenOpens};
+ghost use Rattle.session_engine.specs.Host.{disk_of_opening};
+ghost use Rattle.sheet_check.specs.Accept.{acceptance};
 
 use arrivals::Sources;
 use check_report::Counts;
@@ -32,8 +34,9 @@ pub fn accept_then_open<D: Disk, C: Sources, W: Stamped, P: Progress>(
     progress: &mut P,
     writer: &mut W,
 ) -> AcceptedThenOpened<D, C>
-    ensures { InModel (D.view disk) (AcceptsThenOpens W.held (W.contents writer.old)
-        (W.contents writer.new) (D.view disk) result.answer result.opened) }
+    ensures { InModel (D.view disk) (AcceptsThenOpens
+        (acceptance W.held (D.view disk) (disk_of_opening D.view result.opened))
+        (W.contents writer.old) (W.contents writer.new) result.answer result.opened) }
 {
     host_laws::hosts_in_turn();
     recovery::one_sheet();

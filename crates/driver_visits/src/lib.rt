@@ -19,7 +19,7 @@ mod filed;
 mod runs;
 
 use arrivals::Sources;
-pub use crashed::{RanThenCrashed, run_then_crash};
+pub use crashed::{AfterCrash, RanThenCrashed, run_then_crash};
 use driver::{Agenda, Sink, Stamped};
 use evaluation::Programs;
 pub use filed::{AcceptedThenOpened, accept_then_open};

@@ -3,6 +3,7 @@ ghost use Rattle.disk_model.specs.Disk.{InModel};
 ghost use Rattle.driver.specs.Over.{program_parts};
 ghost use Rattle.driver.specs.Place.{agenda_rules, rules, source_rules};
 ghost use Rattle.driver_visits.specs.Runs.{RunsThenOpens};
+ghost use Rattle.session_engine.specs.Host.{disk_of_opening};
 
 use arrivals::Sources;
 use disk_model::Disk;
@@ -38,7 +39,8 @@ pub fn run_then_open<D: Disk, S: Sources, K: Sink, A: Agenda>(
     ensures { InModel (D.view disk) (RunsThenOpens
         (rules (agenda_rules A.rules A.joins) (source_rules S.after S.wakes S.clock) K.rules)
         (program_parts (D.view disk) sources sink agenda)
-        result.sources result.sink result.agenda result.opened result.answer) }
+        (program_parts (disk_of_opening D.view result.opened) result.sources result.sink
+        result.agenda) result.opened result.answer) }
 {
     host_laws::hosts_in_turn();
     recovery::one_sheet();

@@ -341,7 +341,7 @@ module _ {C : Type 0} (o : Way C) (chosen : Chosen) (all left : List Field) (fie
       let there = put ops put-so disk taken.kept in
       broken taken.so.cases last there.0 is-disk (up-to last came) there.1 (reported-so same) (but-one last there.0 there.1 put)
   one_broke why (unwritten last is-output came put) stamped =
-      unwritten (taken.so.cases ++ last ∷ []) is-output (up-to last came)
+      unwritten taken.so.cases last is-output (up-to last came)
       (one-reported last put (stamped (was-chosen o chosen field (at taken.so.leads c h.store.disk) last (at came.0 d g.store.disk) came.1) is-output))
 
 pub all_took : {C : Type 0} (o : Way C) (chosen : Chosen) (all left : List Field) (s : At C) (h : HostView) (c : C) (a b : Option (List ℕ)) (held : Option (List ℕ) → DiskView → Type 0) (ops : List Op) (disk : DiskView) (store : StoreView) (counts : Counts) → left ≡ []

@@ -79,7 +79,7 @@ module _ {C : Type 0} (o : Way C) (chosen : Chosen) (sheet : Contents) (w : Worl
   broke_left copied why (early failed withheld filed) = early-left copied why failed withheld filed
   broke_left copied why (full cases last one is checked taken wrote filed place) = ends.full cases last one is (led-so copied (cases ++ last ∷ []) checked) taken wrote filed place
   broke_left copied why (broken cases last one is checked taken wrote filed) = ends.broken cases last one is (led-so copied (cases ++ last ∷ []) checked) taken wrote filed
-  broke_left copied why (unwritten cases is checked filed) = ends.unwritten cases is (led-so copied cases checked) filed
+  broke_left copied why (unwritten cases last is checked filed) = ends.unwritten cases last is (led-so copied (cases ++ last ∷ []) checked) filed
 
 -- The counts are reported, or not.
 module _ {C : Type 0} (o : Way C) (chosen : Chosen) (sheet : Contents) (w : World) (copy : DiskView) (copied : IsCopy sheet w copy) (c d : C)
@@ -103,7 +103,7 @@ module _ {C : Type 0} (o : Way C) (chosen : Chosen) (sheet : Contents) (w : Worl
   )
 
   pub counts_kept_back : (why : RunFault) → why ≡ fault.Output → AcceptLeft (to_accept o chosen) sheet (passage c d a e) x why
-  counts_kept_back why is = ends.unwritten p.0.0 is
+  counts_kept_back why is = ends.uncounted p.0.0 is
       (record {
         start = w;
         copy = copy;
@@ -117,7 +117,7 @@ module _ {C : Type 0} (o : Way C) (chosen : Chosen) (sheet : Contents) (w : Worl
         led = still refl;
         stops = p.0.3;
       })
-      p.1
+      refl p.1
 
 -- A host on a copy has the worksheet that was copied.
 pub copy_is : OneSheet → (sheet : Contents) (w : World) (h : HostView) → IsHost h w → IsCopy sheet w h.store.disk → h.store.sheet.contents ≡ sheet
@@ -157,7 +157,8 @@ module _ {C : Type 0} (o : Way C) (chosen : Chosen) (sheet : Contents) (c d : C)
   left_opened why e (ends.unremembered cases is led wrote holds) = let no : fault.OutOfMemory ≡ fault.Open x = sym is ∙ e in cc
   left_opened why e (ends.full cases last one is led taken wrote holds place) = let no : fault.Host hosts.JournalFull ≡ fault.Open x = sym is ∙ e in cc
   left_opened why e (ends.broken cases last one is led taken wrote holds) = let no : fault.Host hosts.Disk ≡ fault.Open x = sym is ∙ e in cc
-  left_opened why e (ends.unwritten cases is led holds) = let no : fault.Output ≡ fault.Open x = sym is ∙ e in cc
+  left_opened why e (ends.unwritten cases last is led holds) = let no : fault.Output ≡ fault.Open x = sym is ∙ e in cc
+  left_opened why e (ends.uncounted cases is led all holds) = let no : fault.Output ≡ fault.Open x = sym is ∙ e in cc
 
   pub was_opened : (nothing : Type 0) → SheetAccepts (to_accept o chosen) sheet (passage c d a b) nothing f (Err (fault.Open x)) → ⊥
   was_opened nothing (inl p) = let no : fault.Open x ≡ fault.OutOfMemory = p.0 in cc

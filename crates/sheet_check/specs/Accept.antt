@@ -77,13 +77,13 @@ pub record Filing : Type 1 where
 abbrev pub filing : (Option (List ℕ) → DiskView → Type 0) → List Op → DiskView → DiskView → Filing
 filing held ops before after = record { held = held; ops = ops; before = before; after = after }
 
--- A case was reported after those before it, by an output that held this text at first; these ops were put in all. When its text was tried the output
--- held the report of those, and the disk was in this state: `held` says that there was such a moment. Each byte after these was written later, and from that
--- state on each image has what is accepted of this case and of those, and some of the first of the rest.
-pub record ReportedAfter (x : Filing) (text : Option (List ℕ)) (put : List Op) (before : List Case) (one : Case) : Type 0 where
+-- A case was reported after those before it, on an output that held these bytes at first; `put` are all ops that were put. When the text of this case was tried
+-- the output held the report of those, and the disk was in this state: `held` says that there was such a moment. Each byte after these was written later, and
+-- from that state on each image has what is accepted of this case and of those, and some of the first of the rest.
+pub record ReportedAfter (x : Filing) (at_first : Option (List ℕ)) (put : List Op) (before : List Case) (one : Case) : Type 0 where
   pub printed : Option (List ℕ)
   pub disk : DiskView
-  pub begins : Appends text printed (report_front format.Accepting before)
+  pub begins : Appends at_first printed (report_front format.Accepting before)
   pub held : x.held printed disk
   pub rest : List Op
   pub split : put ≡ accepted (before ++ one ∷ []) ++ rest
@@ -94,11 +94,11 @@ abbrev pub EachReported : Filing → Option (List ℕ) → List Op → List Case
 EachReported x text put before [] = Unit {0}
 EachReported x text put before (one ∷ cases) = ReportedAfter x text put before one × EachReported x text put (before ++ one ∷ []) cases
 
--- On the disk is what is accepted of these cases, and no more. It was there before each of them was reported.
+-- On the disk is what is accepted of these cases, and no more. What is accepted of each was there before that case was reported.
 abbrev pub FiledAll : Filing → Option (List ℕ) → List Case → Type 0
 FiledAll x text cases = HoldsAll x.ops (accepted cases) x.before x.after × EachReported x text (accepted cases) [] cases
 
--- So it is, and at the next op the disk failed.
+-- The same, and perhaps this op, at which the disk failed.
 abbrev pub FiledBut : Filing → Option (List ℕ) → List Case → Op → Type 0
 FiledBut x text cases one = HoldsBut x.ops (accepted cases) one x.before x.after × EachReported x text (accepted cases ++ one ∷ []) [] cases
 
@@ -115,8 +115,11 @@ pub data AcceptLeft {C : Type 0} (o : OneByOne C) (sheet : Contents) (q : Passag
   -- the disk failed at the answer to the last field
   broken : (cases : List Case) (last : Case) (one : Op) → why ≡ fault.Host hosts.Disk → SheetLed o sheet q.sources q.left (cases ++ last ∷ [])
       → accepted_of last ≡ one ∷ [] → Appends q.text q.written (report_front o.format cases) → FiledBut x q.text cases one → AcceptLeft o sheet q x why
-  -- the writer failed at the text of the last field, or at the counts
-  unwritten : (cases : List Case) → why ≡ fault.Output → SheetLed o sheet q.sources q.left cases → FiledAll x q.text cases → AcceptLeft o sheet q x why
+  -- The writer failed at the text of the last of these: those before it were written, and its answer is on the disk, too.
+  unwritten : (cases : List Case) (last : Case) → why ≡ fault.Output → SheetLed o sheet q.sources q.left (cases ++ last ∷ []) → FiledAll x q.text (cases ++ last ∷ [])
+      → AcceptLeft o sheet q x why
+  -- it failed at the counts, when all fields had been checked
+  uncounted : (cases : List Case) → why ≡ fault.Output → (led : SheetLed o sheet q.sources q.left cases) → led.left ≡ [] → FiledAll x q.text cases → AcceptLeft o sheet q x why
 
 -- What becomes of the check of a worksheet whose answers that differ or are new are accepted: the report of them is written, and exactly those
 -- answers are put after its ops. A lack of memory may be reported before the copy is there.

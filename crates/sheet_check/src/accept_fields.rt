@@ -53,6 +53,7 @@ fn accept_field<D: Disk, S: Disk, C: Sources, W: Stamped, P: Progress>(
     requires stands { (w : World) × IsHost driver.old.host w }
     requires open { store.old.closed ≡ false }
     requires there { has_field store.old.sheet.contents place.now.field.now.id ≡ true }
+    requires at_once { store.old.gathers ≡ false }
     ensures written { store.old.gathers ≡ false → store.new.gathers ≡ false }
     ensures ok { (w : World) → IsHost driver.old.host w → IfOk result (λ after. (wrote : FieldWrote
         (accepting_by C.after C.clock C.wakes place.now.manner.request.now)
@@ -94,6 +95,7 @@ fn accept_fields<D: Disk, S: Disk, C: Sources, W: Stamped, P: Progress>(
     requires few { length suite.now.sheet.now.contents.fields < 2 ^ 31 }
     requires stands { (w : World) × IsHost driver.old.host w }
     requires goes_on { GoesOn suite.now.sheet.now.contents store.old }
+    requires at_once { store.old.gathers ≡ false }
     ensures written { store.old.gathers ≡ false → store.new.gathers ≡ false }
     ensures ok { (w : World) → IsHost driver.old.host w → (ops : List Op) → (disk : DiskView)
         → Stores ops [] disk store.old → IfOk result (FieldsTook
@@ -145,6 +147,7 @@ fn accept_and_stop<D: Disk, S: Disk, C: Sources, W: Stamped, P: Progress>(
     requires few { length suite.now.sheet.now.contents.fields < 2 ^ 31 }
     requires stands { (w : World) × IsHost driver.old.host w }
     requires goes_on { GoesOn suite.now.sheet.now.contents store.old }
+    requires at_once { store.old.gathers ≡ false }
     ensures written { store.old.gathers ≡ false → store.new.gathers ≡ false }
     ensures ok { (w : World) → IsHost driver.old.host w → (ops : List Op) → (disk : DiskView)
         → Stores ops [] disk store.old → IfOk result (λ counts. (ended : FieldsEnded
@@ -183,6 +186,7 @@ fn accepted_on_copy<S: Disk, C: Sources, W: Stamped, P: Progress>(
     requires made { (ops : List Op) × Makes ops suite.now.sheet.now.contents }
     requires few { length suite.now.sheet.now.contents.fields < 2 ^ 31 }
     requires goes_on { GoesOn suite.now.sheet.now.contents store.old }
+    requires at_once { store.old.gathers ≡ false }
     ensures written { store.old.gathers ≡ false → store.new.gathers ≡ false }
     ensures none { IfNone result.answer ((result.sources ≡ sources) × (writer.new ≡ writer.old)
         × (progress.new ≡ progress.old) × (store.new ≡ store.old)) }
@@ -222,6 +226,7 @@ fn accepted_on_copies<S: Disk, C: Sources, W: Stamped, P: Progress>(
     requires made { (ops : List Op) × Makes ops store.old.sheet.contents }
     requires few { length store.old.sheet.contents.fields < 2 ^ 31 }
     requires goes_on { GoesOn store.old.sheet.contents store.old }
+    requires at_once { store.old.gathers ≡ false }
     ensures written { store.old.gathers ≡ false → store.new.gathers ≡ false }
     ensures none { IfNone result.answer ((result.sources ≡ sources) × (writer.new ≡ writer.old)
         × (progress.new ≡ progress.old) × (store.new ≡ store.old)) }
@@ -261,6 +266,7 @@ pub(crate) fn accept_sheet<S: Disk, C: Sources, W: Stamped, P: Progress>(
 ) -> Gave<Result<Counts, RunFault>, C>
     requires made { (ops : List Op) × Makes ops store.old.sheet.contents }
     requires goes_on { GoesOn store.old.sheet.contents store.old }
+    requires at_once { store.old.gathers ≡ false }
     ensures written { store.old.gathers ≡ false → store.new.gathers ≡ false }
     ensures accepted { (ops : List Op) → (disk : DiskView) → Stores ops [] disk store.old
         → SheetAccepts
@@ -290,7 +296,8 @@ pub(crate) fn accept_sheet<S: Disk, C: Sources, W: Stamped, P: Progress>(
 /// `Open` where the disk isn't opened, `NoField` where the worksheet lacks a field whose number is left out or
 /// compared: nothing was done. `Host(JournalFull)` where an answer doesn't fit
 /// on the disk, or on that of the copy; `Host(Disk)` where the disk failed: one answer more than was reported
-/// may be on it. `Output` where the writer fails: the same. `OutOfMemory`, `Host` of another fault of the copy's
+/// may be on it. `Output` where the writer fails: the answer of the case whose text was tried is on it, too, and of that text a
+/// part may have gone out. `OutOfMemory`, `Host` of another fault of the copy's
 /// host, and `Input` and `InputTooLong` as of `check`: what was reported is on the disk, and no more.
 pub fn check_accepting<D: Disk, C: Sources, W: Stamped, P: Progress>(
     manner: &Manner<'_>,

@@ -180,6 +180,7 @@ fn take<D: Disk, W: Stamped, P: Progress>(
     requires open { store.old.closed ≡ false }
     requires there { has_field store.old.sheet.contents id ≡ true }
     requires short { HasShortPrompt found.answer }
+    requires at_once { store.old.gathers ≡ false }
     ensures written { store.old.gathers ≡ false → store.new.gathers ≡ false }
     ensures ok { IfOk result (λ j. (j ≡ found.judgement)
         × Puts (putting store.old store.new) (answer_ops id found.answer)
@@ -219,6 +220,7 @@ pub(crate) fn accept_shown<D: Disk, S: Disk, C: Sources, W: Stamped, P: Progress
     requires stands { (w : World) × IsHost driver.old.host w }
     requires open { store.old.closed ≡ false }
     requires there { has_field store.old.sheet.contents place.now.field.now.id ≡ true }
+    requires at_once { store.old.gathers ≡ false }
     ensures written { store.old.gathers ≡ false → store.new.gathers ≡ false }
     ensures ok { (w : World) → IsHost driver.old.host w → IfOk result (ShownTook
         (accepting_by C.after C.clock C.wakes place.now.manner.request.now)

@@ -201,6 +201,7 @@ pub(crate) fn accept_named<S: Disk, C: Sources, W: Stamped, P: Progress>(
 ) -> Gave<Result<Counts, CheckFault>, C>
     requires made { (ops : List Op) × Makes ops store.old.sheet.contents }
     requires goes_on { GoesOn store.old.sheet.contents store.old }
+    requires at_once { store.old.gathers ≡ false }
     ensures written { store.old.gathers ≡ false → store.new.gathers ≡ false }
     ensures accepted { (ops : List Op) → (disk : DiskView) → Stores ops [] disk store.old
         → ByNames (missing_named manner.now.request.now.chosen store.old.sheet.contents.fields)

@@ -54,8 +54,8 @@ pub record Files (before : Image) (disk : DiskView) (ops more : List Op) (back :
   pub same : SameDisk disk now
   pub moments : InModel now (LeavesOnly (HasFirst ops more []) now.history back.history)
 
--- Invocations of the program on the same files, one after another: those that have hosts or make reads alone, and acceptances between them. Where
--- one is cut off (A5), from some earlier moment on each image has all that it had reported (A6); so where it ends.
+-- Invocations of the program on the same files, one after another: those that have hosts or make reads alone, and acceptances between them. Of each of these
+-- there is a moment from which on every image has all that it had reported (A6); the crash came then or later (A5), or it ended.
 pub data Uses (room : ℕ) : Image → List Act → Image → Type 0 where
   no_use : {at : Image} → Uses room at [] at
   turns_of : {before mid after : Image} {turns : List HostTurn} {acts : List Act} → Invocations room before turns mid → Uses room mid acts after

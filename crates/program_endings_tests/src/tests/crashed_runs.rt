@@ -6,7 +6,7 @@ use bstr::ByteSlice;
 use child_calls::Scripted;
 use disk_model::{Choice, Fill, MemoryDisk};
 use driver::Voiced;
-use driver_visits::{RanThenCrashed, run_then_crash};
+use driver_visits::{AfterCrash, RanThenCrashed, run_then_crash};
 use script_agenda::ByScript;
 use sheet_text::sheet_text;
 use std::alloc::Global;
@@ -54,6 +54,7 @@ fn left(alloc: Global, choice: &Choice) -> Option<Vec<u8>> {
     };
     let agenda = ByScript::new(alloc, SCRIPT.lines(), false);
     let RanThenCrashed {
+        disk: _,
         sources: _,
         sink: _,
         agenda: _,
@@ -63,7 +64,7 @@ fn left(alloc: Global, choice: &Choice) -> Option<Vec<u8>> {
     if answer.is_err() {
         return None;
     }
-    let Some(Ok(host)) = opened else {
+    let AfterCrash::Opened(Ok(host)) = opened else {
         return None;
     };
     let mut text = Vec::new(alloc);

@@ -78,7 +78,7 @@ pub record Putting : Type 0 where
 abbrev pub putting : StoreView → StoreView → Putting
 putting old new = record { old = old; new = new }
 
--- this is so whatever had been put in the store, and since whenever
+-- Whichever ops, puts and first disk describe the store before, this holds of it after.
 abbrev pub Whatever : Putting → (Storing → Type 0) → Type 0
 Whatever y P = (ops more : List Op) (disk : DiskView) → Stores ops more disk y.old → P (storing ops more disk y.new)
 
@@ -90,12 +90,12 @@ Puts y ones = Whatever y (λ x. PutAll x ones)
 abbrev pub PutsNothing : Putting → Type 0
 PutsNothing y = Whatever y PutNone
 
--- What a fault leaves where these are to be put, and a text is to be written: they weren't put, and nothing was written; or the writer failed.
+-- What a fault leaves where these are to be put, and a text is to be written: by which cause they weren't put, and nothing was written; or the writer failed.
 pub data NotTaken (y : Putting) (ones : List Op) (a b : Option (List ℕ)) (why : RunFault) : Type 0 where
   not_put : (cause : PutFault) → why ≡ fault_of_acceptance cause → Whatever y (λ x. NotPut x ones cause) → b ≡ a → NotTaken y ones a b why
   unwritten : why ≡ fault.Output → Puts y ones → NotTaken y ones a b why
 
--- A text was tried by now, or is known not to be: then the output held these bytes while the disk was in this state.
+-- Where a text was tried, at Ok and where the output failed, the output held these bytes before, while the disk was in this state.
 abbrev pub StampedSo : {T : Type 0} → (Option (List ℕ) → DiskView → Type 0) → Option (List ℕ) → DiskView → Result T RunFault → Type 0
 StampedSo held text disk (Ok done) = held text disk
 StampedSo held text disk (Err why) = why ≡ fault.Output → held text disk
@@ -145,7 +145,8 @@ pub data FieldsBroke {C : Type 0} (o : OneByOne C) (fields : List Field) (s : At
       → Appends l.out l.now (report_front o.format cases) → FiledAll x l.out cases → NoPlace one x.after → FieldsBroke o fields s l x why
   broken : (cases : List Case) (last : Case) (one : Op) → why ≡ fault.Host hosts.Disk → FieldsUpTo o fields s l.host l.sources (cases ++ last ∷ []) → accepted_of last ≡ one ∷ []
       → Appends l.out l.now (report_front o.format cases) → FiledBut x l.out cases one → FieldsBroke o fields s l x why
-  unwritten : (cases : List Case) → why ≡ fault.Output → FieldsUpTo o fields s l.host l.sources cases → FiledAll x l.out cases → FieldsBroke o fields s l x why
+  unwritten : (cases : List Case) (last : Case) → why ≡ fault.Output → FieldsUpTo o fields s l.host l.sources (cases ++ last ∷ []) → FiledAll x l.out (cases ++ last ∷ [])
+      → FieldsBroke o fields s l x why
 
 -- The fields of a worksheet were checked on a copy of it, each life that goes on was stopped, and what is accepted is put on a disk on which nothing was put
 -- before; or that ended early.
