@@ -1,9 +1,10 @@
 -- What a place of files went through when a worksheet's two files were made or opened. The place is
 -- followed from each call to the next one, so nothing else was done there, and each answer is said.
-use Rattle.std.specs.Prelude.{◌≡◌, ◌≤◌, ◌⊎◌, ◌++◌, ℕ, List, Bool, false, true, Option, Some, None, Result, Ok, Err, IfOk, OnOk, codes}
+use Rattle.std.specs.Prelude.{◌≡◌, ◌≤◌, ◌⊎◌, ◌++◌, ℕ, List, Bool, false, true, Option, Some, None, Result, Ok, Err, IfOk, OnOk, codes, if◌then◌else◌}
 use Rattle.std.specs.IoError.{error_kind}
 use Rattle.std.specs.declared.io.Error.{Error}
-use Rattle.std.specs.declared.io.ErrorKind.TheVariants.{NotFound}
+use Rattle.std.specs.declared.io.ErrorKind.{ErrorKind}
+use Rattle.std.specs.declared.io.ErrorKind.TheVariants.{InvalidInput, NotFound, Unsupported}
 use Rattle.std.specs.declared.fs.locks.TryLockError.{TryLockError}
 use Rattle.std.specs.declared.fs.locks.TryLockError.TheVariants.{WouldBlock}
 use Rattle.std.specs.declared.fs.locks.TryLockError.TheVariants as tries
@@ -104,12 +105,18 @@ DiskRead {F} {N} calls path first second old new =
     (real : List ℕ) × ((a : N) × calls.leads old path real a
     × OpenedToRead calls real (second_name real) (first, second) a new)
 
+-- the errors by which a file system says that it has no locks
+abbrev pub tells_no_locks : ErrorKind → Bool
+tells_no_locks Unsupported = true
+tells_no_locks InvalidInput = true
+tells_no_locks _ = false
+
 -- whether another has a file, by what came of a lock that was asked for: nobody, where it was given; somebody, where it wasn't for
--- that; and of another error that error, or nobody, where the file system has no locks
+-- that; nobody, where the file system has no locks; and of another error that error
 abbrev pub SaysInUse : Result (Unit {0}) TryLockError → Result Bool Error → Type 0
 SaysInUse (Ok _) result = result ≡ Ok false
 SaysInUse (Err WouldBlock) result = result ≡ Ok true
-SaysInUse (Err (tries.Error error)) result = result ≡ Err error ⊎ result ≡ Ok false
+SaysInUse (Err (tries.Error error)) result = result ≡ (if tells_no_locks (error_kind error) then Ok false else Err error)
 
 -- this lock was asked for of this file, and the answer is by what came
 abbrev pub LocksBy : {F : Type 0} → (F → Lock → Result (Unit {0}) TryLockError → Type 0) → F → Lock → Result Bool Error → Type 0

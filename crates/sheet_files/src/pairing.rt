@@ -1,6 +1,6 @@
 //! The two files of a worksheet: their paths, and the real place in which they are made and opened.
 ghost use Rattle.std.specs.Prelude.{◌≡◌, IfOk, string_bytes};
-ghost use Rattle.sheet_files.specs.Names.{Brings, LocksBy, OpenedFor, second_name};
+ghost use Rattle.sheet_files.specs.Names.{Brings, LocksBy, OpenedFor, second_name, tells_no_locks};
 ghost use Rattle.sheet_files.specs.declared.sheet_file.Lock.TheVariants.{Exclusive};
 
 use crate::holding::{Closed, Held, hold_closed};
@@ -58,15 +58,12 @@ fn is_there<R: Files>(rt: &R, path: &str) -> io::Result<bool> {
     }
 }
 
-/// Linux's number for "no locks available", as a network file system without its lock service says it.
-const ENOLCK: i32 = 37;
-
-/// Whether a file system says by this that it has no locks.
-fn has_no_locks(error: &io::Error) -> bool {
-    matches!(
-        error.kind(),
-        ErrorKind::Unsupported | ErrorKind::InvalidInput
-    ) || error.raw_os_error() == Some(ENOLCK)
+/// Whether a file system says by this that it has no locks. One that has some and lends none, as a network file system whose lock
+/// service is down (ENOLCK), doesn't: there another program may have the file.
+fn has_no_locks(kind: ErrorKind) -> bool
+    ensures { result ≡ tells_no_locks kind }
+{
+    matches!(kind, ErrorKind::Unsupported | ErrorKind::InvalidInput)
 }
 
 /// Takes a lock, and answers whether another has the file. A file system without locks has none that
@@ -78,7 +75,7 @@ fn is_in_use<F: SheetFile>(file: &F, lock: Lock) -> io::Result<bool>
         Ok(()) => Ok(false),
         Err(TryLockError::WouldBlock) => Ok(true),
         Err(TryLockError::Error(error)) => {
-            if has_no_locks(&error) {
+            if has_no_locks(error.kind()) {
                 return Ok(false);
             }
             Err(error)
