@@ -231,7 +231,7 @@ module _ {C : Type 0} (o : Way C) (chosen : Chosen) (all left : List Field) (fie
   split-on : all ≡ (taken.so.gone ++ field ∷ []) ++ others
   split-on = taken.so.split ∙ ap (λ x. taken.so.gone ++ x) is ∙ sym (append_assoc taken.so.gone (field ∷ []) others)
 
-  put-so : List Op
+  abbrev put-so : List Op
   put-so = accepted taken.so.cases
 
   here : Stores (ops ++ put-so) [] store.disk store

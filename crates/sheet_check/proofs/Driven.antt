@@ -33,7 +33,6 @@ use Rattle.field_agenda.specs.Stages.{IsEnded}
 use Rattle.field_agenda.specs.Standing.{first_fields}
 use Rattle.field_agenda.specs.declared.by_fields.ByFields.{ByFields}
 use Rattle.field_agenda.specs.declared.stage.Stage.{Stage}
-use Rattle.field_agenda.specs.declared.stage.Stage.TheVariants as stage
 use Rattle.field_agenda.proofs.Endings.{comes_to_an_end}
 use Rattle.field_agenda.proofs.Looked.{looked_first}
 use Rattle.driver.specs.Place.{source_rules}

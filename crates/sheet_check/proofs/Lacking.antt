@@ -2,9 +2,7 @@
 use Rattle.std.proofs.Common.{◌≡◌, ◌∙◌, ℕ, Bool, true, false, List, Option, ap, refl, sym, subst}
 use Rattle.std.specs.Prelude.{Result, Ok, Err}
 use Rattle.std.specs.Bool.{MatchBool}
-use Rattle.disk_model.specs.Disk.{DiskView}
 use Rattle.worksheet.specs.Contents.{Contents}
-use Rattle.worksheet.specs.declared.op.Op.{Op}
 use Rattle.journal.specs.declared.opening.OpenCause.{OpenCause}
 use Rattle.child_edge.specs.Faithful.{at}
 use Rattle.offline_programs.specs.declared.fault.RunFault.{RunFault}

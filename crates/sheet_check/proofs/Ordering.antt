@@ -1,6 +1,6 @@
 -- Reports in order go on with each answer that is put.
 use Rattle.std.proofs.Common.{◌≡◌, ◌∙◌, ℕ, List, [], ◌∷◌, ◌++◌, Option, IsTrue, refl, ap, sym, subst, append_assoc, append-nil, arith}
-use Rattle.disk_model.specs.Disk.{DiskView, Image, InModel, LeavesOnly}
+use Rattle.disk_model.specs.Disk.{DiskView, Image, InModel, Leaves, LeavesOnly}
 use Rattle.disk_model.specs.inside.Moments.{goes_on, started, weakens}
 use Rattle.worksheet.specs.declared.op.Op.{Op}
 use Rattle.worksheet.specs.Ops.{sheet_of}
@@ -63,7 +63,7 @@ one_more x text put front (c ∷ cases) one all last =
 pub stores_here : (ops more : List Op) (disk : DiskView) (store : StoreView) → Stores ops more disk store → Stores (ops ++ more) [] store.disk store
 stores_here ops more disk store stores =
     let same : ops ++ more ≡ (ops ++ more) ++ [] = sym (append-nil (ops ++ more)) in
-    let here : (keeps : IsTrue store.disk.keeps_model) (i : Image) → _ = λ keeps i image. subst (λ (os : List Op). IsSheetImage (sheet_of os) i) same
+    let here : InModel store.disk (Leaves (IsSheetImage (sheet_of ((ops ++ more) ++ []))) store.disk.history.now) = λ keeps i image. subst (λ (os : List Op). IsSheetImage (sheet_of os) i) same
     (stores.disk.holds (subst IsTrue stores.disk.same.keeps_model keeps) i image) in
     record {
       still_open = stores.still_open;

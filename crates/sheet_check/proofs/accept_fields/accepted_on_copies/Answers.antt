@@ -1,4 +1,4 @@
-use Rattle.std.proofs.Common.{◌≡◌, ◌∙◌, [], ap, length, subst, sym, arith}
+use Rattle.std.proofs.Common.{◌≡◌, ◌∙◌, ap, length, subst, sym, arith}
 use Rattle.std.specs.Prelude.{IfSome}
 use Rattle.worksheet.specs.Contents.{Contents, SheetView}
 use Rattle.check_report.specs.declared.report.Format.TheVariants as format

@@ -1,4 +1,4 @@
-use Rattle.std.proofs.Common.{[], sym, subst}
+use Rattle.std.proofs.Common.{sym, subst}
 use Rattle.session_engine.specs.Host.{HostView, IsHost}
 use Rattle.sheet_check.specs.Accept.{filing, to_accept}
 use Rattle.sheet_check.specs.Check.{IsCopy, passage}
