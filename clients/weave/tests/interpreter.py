@@ -13,6 +13,7 @@ lines that it has got, so that an answer tells what was evaluated before it.
     until PATH    answers when this file is there
     stuck         never answers
     die           ends
+    bye           answers as it does any line, and ends
 
 With a value for the environment variable TMHOST_SLEEP, each line takes so many seconds.
 """
@@ -83,6 +84,8 @@ def main() -> None:
             log.write(line)
         time.sleep(float(os.environ.get("TMHOST_SLEEP", "0")))
         write(answer(lines))
+        if lines[-1] == "bye":
+            return
 
 
 if __name__ == "__main__":

@@ -161,6 +161,34 @@ class Kills(Case):
     def test_program(self) -> None:
         self.many(kill_program)
 
+    def test_interpreter(self) -> None:
+        """No line is answered by an interpreter that was started again, and so hasn't got the lines before it."""
+        for _ in range(max(4, KILLS // 2)):
+            blocks = [("a", self.block()[1]) for _ in range(10)]
+            self.write(self.front("a") + fences(blocks))
+            with subprocess.Popen(command_words(self.text), env=environment(TMHOST_SLEEP="0.002"), stderr=subprocess.PIPE) as weave:
+                while not os.path.exists(self.place("a.log")):
+                    time.sleep(0.002)
+                time.sleep(self.random.uniform(0, 0.1))
+                for pid in (interpreter for program in children_of(weave.pid) for interpreter in children_of(program)):
+                    with contextlib.suppress(ProcessLookupError):
+                        os.kill(pid, signal.SIGKILL)
+                weave.communicate()
+            self.logged("a")
+            found = answers(self.read())
+            self.assertEqual(found, expected(blocks)[: len(found)])
+            self.assertEqual(answers(self.weave(self.front("a") + fences(blocks))), expected(blocks))
+            self.logged("a")
+
+    def test_an_end_after_an_answer(self) -> None:
+        """What stands after it gets no answer, neither by this weave nor by the next one."""
+        blocks = [("a", "x\nbye"), ("a", "y"), ("a", "z")]
+        for _ in range(2):
+            woven = self.weave(self.front("a") + fences(blocks), 1)
+            self.assertEqual(answers(woven), [value(["x"]), value(["x", "bye"])])
+            self.assertEqual(woven.count("```tmhost-no-answer\nnot evaluated, since its interpreter ended by itself after what stands before it\n"), 1)
+            self.assertEqual([field["state"] == "answered" for field in self.fields()], [True, True, False, False])
+
     def test_first_weave(self) -> None:
         """Kills while the worksheet is made, too."""
         blocks = [self.block() for _ in range(4)]

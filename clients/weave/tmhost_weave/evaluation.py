@@ -1,24 +1,34 @@
 """Evaluates the stale fields of a text, in its order."""
 import contextlib
+import math
 import threading
+import time
 from typing import Callable, Dict, Iterator, List, Optional, Set, Tuple
 
 from tmhost import Banner, Cell, Ended, Event, Lost, Refused, TimedOut, Worksheet
 
+from .files import Changed
+from .lives import Lives
 from .plan import MARK, Plan, Wanted
 
 BELOW = "what stands below is of a replay, and is removed"
 UNTRIED = "not evaluated, since what stands before it in its session has no answer"
+ENDED = "not evaluated, since its interpreter ended by itself after what stands before it"
 AT_START, AT_CODE = "before its banner", "at the code of a field"  # when an interpreter ended
 PATIENCE = 30.0  # seconds after which it is said that a field has no answer yet
+LOOK = 0.3  # seconds after which it is asked whether a field is still wanted
 HEARD_WITHIN = 10.0  # seconds in which an end is heard of that a caller knows already
+
+
+class Another(Exception):
+    """Another interpreter was asked than the one that has answered what stands before, since that has ended."""
 
 
 class Ends:
     """Hears of each interpreter that has ended whether it had greeted: then its code ended it. The events come on a thread of the worksheet."""
 
     def __init__(self, sheet: Worksheet) -> None:
-        self._greeted: Set[Tuple[str, int]] = set()
+        self._greeted = {(session.name, session.life) for session in sheet.sessions.values() if session.life is not None}
         self._ended: Dict[str, str] = {}
         self._changed = threading.Condition()
         self.stop = sheet.listen(self._hear)
@@ -40,19 +50,30 @@ class Ends:
 
 
 class Evaluator:
-    """`begun` is called for each field, with how many there are before it and how many in all; `late` of one that has no answer after some time."""
+    """`begun` is called for each field, with how many there are before it and how many in all; `late` of one that has no answer after some time. `is_outdated`
+    tells, where it is given, whether a field of the plan isn't wanted any more, which breaks off all."""
 
     def __init__(
-        self, sheet: Worksheet, plan: Plan, seconds: Optional[float], begun: Callable[[Wanted, int, int], None], late: Callable[[Wanted, float], None]
+        self, lives: Lives, plan: Plan, seconds: Optional[float], begun: Callable[[Wanted, int, int], None], late: Callable[[Wanted, float], None],
+        is_outdated: Optional[Callable[[Plan, Wanted], bool]] = None,
     ) -> None:
-        self.sheet, self.plan, self.seconds, self.begun, self.late = sheet, plan, seconds, begun, late
+        self.lives, self.sheet, self.plan, self.seconds, self.begun, self.late = lives, lives.sheet, plan, seconds, begun, late
+        self.is_outdated = is_outdated
         self.replayed: Dict[str, int] = {}  # how many fields were, of each session that has an interpreter
         self.others: Dict[str, int] = {}  # how many of those were answered otherwise than what is kept
         self.failed: Set[str] = set()  # sessions of which no further field is evaluated
+        self._asked: Dict[str, List[str]] = {}  # what the interpreter of each session has to have answered by now, and nothing else
+        self._has_lost = False  # whether the last one was lost with its interpreter
         self._scratch: List[Cell] = []
-        self._ends = Ends(sheet)
+        self._ends = Ends(lives.sheet)
 
     def evaluate_all(self) -> None:
+        try:
+            self._evaluate_all()
+        finally:
+            self._ends.stop()
+
+    def _evaluate_all(self) -> None:
         stale = [wanted for wanted in self.plan.wanted if not wanted.is_kept]
         for place, wanted in enumerate(stale):
             self.begun(wanted, place, len(stale))
@@ -80,19 +101,65 @@ class Evaluator:
         if wanted.misfit or wanted.session in self.failed:
             return wanted.misfit or UNTRIED
         assert wanted.id is not None
+        cell = self.sheet.cell(wanted.id)
         if wanted.fence.is_pure:
-            self.sheet.stop(wanted.session)
+            self._start(wanted.session)
         elif wanted.session not in self.replayed:
-            failure = self._replay(wanted.session, wanted)
-            if failure:
+            return self._failure_of_first(cell, wanted)
+        return self._evaluate(cell, wanted, wanted)
+
+    def _start(self, session: str) -> None:
+        """Has the next input of a session evaluated by a new interpreter."""
+        self.sheet.stop(session)
+        self._asked[session] = []
+
+    def _failure_of_first(self, cell: Cell, wanted: Wanted) -> Optional[str]:
+        """The same of the first one in its session, for an interpreter that has answered what is kept and nothing else: the one that runs, or a new one."""
+        kept = [one for one in self.plan.of(wanted.session) if one.is_kept]
+        inputs = [one.input for one in kept]
+        if kept and self.lives.answered(wanted.session) == inputs:
+            self.replayed[wanted.session], self._asked[wanted.session] = 0, inputs
+            self._has_lost = False
+            failure = self._evaluate(cell, wanted, wanted)
+            if failure != ENDED and not self._has_lost:
                 return failure
-        return self._evaluate(self.sheet.cell(wanted.id), wanted, wanted)
+            wanted.end = wanted.ender = None  # it may have ended before it was asked, while nothing was evaluated
+        self._start(wanted.session)
+        return self._replay(kept, wanted) or self._evaluate(cell, wanted, wanted)
+
+    def _refuse_outdated(self, wanted: Wanted) -> None:
+        if self.is_outdated and self.is_outdated(self.plan, wanted):
+            raise Changed
+
+    def _answer(self, cell: Cell, wanted: Wanted, life: Optional[int]) -> None:
+        """Waits for the answer of a cell as long as the field is wanted for whose sake it is evaluated. The interpreter with this life has to give it, where one is
+        named."""
+        until = math.inf if self.seconds is None else time.monotonic() + self.seconds
+        evaluation = cell.eval()
+        if life is not None and self.lives.number(cell.session) not in (life, None):
+            raise Another
+        while True:
+            left = max(0.0, until - time.monotonic())
+            most = min(left, LOOK if self.is_outdated else math.inf)
+            try:
+                evaluation.result(None if most == math.inf else most)
+                return
+            except TimedOut:
+                if most == left:
+                    raise
+            self._refuse_outdated(wanted)
 
     def _evaluate(self, cell: Cell, code: Wanted, wanted: Wanted) -> Optional[str]:
-        """Why a cell has no answer to this code, which is there for the sake of a field."""
+        """Why a cell has no answer to this code, which is there for the sake of a field. It is asked of no interpreter that hasn't answered what stands before it."""
+        self._refuse_outdated(wanted)
+        asked = self._asked[cell.session]
+        if self.lives.answered(cell.session) != asked:
+            return ENDED
         try:
-            cell.evaluate(self.seconds)
+            with self.lives.evaluating(cell.session, code.input) as life:
+                self._answer(cell, wanted, life if asked else None)
         except Lost as lost:
+            self._has_lost = True
             if lost.reason == "Ended":
                 wanted.end, wanted.ender = self._ends.take(cell.session), code
             return f"no answer: {lost.reason}"
@@ -101,11 +168,18 @@ class Evaluator:
         except TimedOut:
             self.sheet.stop(cell.session)
             return f"no answer within {self.seconds:g} seconds"
+        except Another:
+            self.sheet.stop(cell.session)  # before it has greeted, so no answer of it is ever kept
+            return ENDED
+        except Changed:
+            self.sheet.stop(cell.session)
+            raise
+        asked.append(code.input)
         return None
 
-    def _replay(self, session: str, first: Wanted) -> Optional[str]:
+    def _replay(self, kept: List[Wanted], first: Wanted) -> Optional[str]:
         """Has the interpreter of a session evaluate the fields that are kept, in a field of their own, in front of the first one that isn't."""
-        kept = [wanted for wanted in self.plan.of(session) if wanted.is_kept]
+        session = first.session
         self.replayed[session] = len(kept)
         if not kept:
             return None

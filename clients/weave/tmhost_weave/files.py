@@ -1,15 +1,43 @@
 """The file of a text: locked while it is woven, and replaced as a whole."""
 import contextlib
+import ctypes
+import errno
 import fcntl
 import os
 import shutil
-from typing import Iterator
+from typing import Iterator, Optional, Tuple
 
 from .sheets import remove
 from tmhost_fences.aside import sync
 from tmhost_fences.troubles import Trouble
 
 LONGEST = 67_108_864  # bytes, as of a script of tmhost
+HERE, EXCHANGE = -100, 2  # AT_FDCWD and RENAME_EXCHANGE of Linux
+Stamp = Optional[Tuple[int, int, int, int]]
+
+
+class Changed(Trouble):
+    """The text was saved while it was woven."""
+
+    def __init__(self) -> None:
+        super().__init__("the text was changed meanwhile, and stays as it is; the answers are kept: weave it again")
+
+
+def text_of(data: bytes) -> str:
+    return data.decode("utf-8", "surrogateescape")
+
+
+def bytes_of(text: str) -> bytes:
+    return text.encode("utf-8", "surrogateescape")
+
+
+def stamp_of(path: str) -> Stamp:
+    """What tells a file from the one that is there when it was saved again; None where there is none."""
+    try:
+        found = os.stat(path)
+    except OSError:
+        return None
+    return found.st_dev, found.st_ino, found.st_size, found.st_mtime_ns
 
 
 def read(path: str) -> bytes:
@@ -37,8 +65,9 @@ def new_name(path: str) -> str:
     return path + ".tmhost-weave"
 
 
-def put(path: str, data: bytes) -> None:
-    """The file has these bytes or the old ones, whenever the machine stops. Where they don't fit, nothing is left of them."""
+def put(path: str, data: bytes, old: Optional[bytes] = None) -> Stamp:
+    """The file has these bytes or the old ones, whenever the machine stops. Where they don't fit, nothing is left of them. Where it is said which the old ones
+    are, it is an error that there are others. Gives the stamp of the new file."""
     new = new_name(path)
     try:
         with open(new, "wb") as file:
@@ -47,11 +76,51 @@ def put(path: str, data: bytes) -> None:
             os.fsync(file.fileno())
         if os.path.exists(path):
             shutil.copymode(path, new)
-        os.replace(new, path)
+        stamp = stamp_of(new)
+        if old is None:
+            os.replace(new, path)
     except BaseException:
         remove(new)
         raise
+    if old is not None:
+        put_over(new, path, data, old)
     sync(os.path.dirname(path))
+    return stamp
+
+
+def exchange(one: str, other: str) -> bool:
+    """Has each of two files take the place of the other, in one step; False where the system can't."""
+    libc = ctypes.CDLL(None, use_errno=True)
+    if not hasattr(libc, "renameat2"):
+        return False
+    if libc.renameat2(HERE, os.fsencode(one), HERE, os.fsencode(other), EXCHANGE) == 0:
+        return True
+    if ctypes.get_errno() == errno.ENOENT:
+        raise FileNotFoundError(errno.ENOENT, os.strerror(errno.ENOENT), other)
+    return False
+
+
+def put_over(new: str, path: str, data: bytes, old: bytes) -> None:
+    """Puts a new file with these data into the place of one with the old ones. Where that has others, since somebody has saved it in this moment, they get their
+    place back, and so do those that were saved since."""
+    try:
+        if read(path) != old:
+            raise Changed
+        is_exchanged = exchange(new, path)
+        if not is_exchanged:
+            os.replace(new, path)
+    except (OSError, Trouble):
+        remove(new)
+        raise
+    if not is_exchanged:
+        return
+    there, expected = data, old
+    while (found := read(new)) != expected:
+        there, expected = found, there
+        exchange(new, path)
+    remove(new)
+    if there is not data:
+        raise Changed
 
 
 def put_in_folder(path: str, data: bytes) -> None:

@@ -14,7 +14,7 @@ from .answers import ERROR, FORMULA, NO_ANSWER, PICTURE, Piece, Shown
 from .document import Document
 from .dollars import DISPLAY, TEX, add_to
 from .figures import STYLE as WIDTH_OF, WITH_TEXT, add_figures
-from .files import read
+from .files import Stamp, read, stamp_of
 from .headings import add_names, first_heading, text_of
 from .links import ELSEWHERE, lead_to_pages
 from .matter import Matter
@@ -68,6 +68,7 @@ class Page:
         self.first, self.matter, self.pictures, self.folder = matter.lines, matter, pictures, folder
         self.lines = [cut(line)[0] for line in bare.lines[self.first :]]
         self.reported: List[str] = []
+        self.files: Dict[str, Stamp] = {}  # pictures of the prose, each as it was before it was read
         self.is_whole = True
         self._env: Dict[str, Any] = {}
         self._parser, self._tokens = self._parsed()
@@ -175,6 +176,7 @@ class Page:
             return None
         try:
             file = os.path.join(self.folder, path)
+            self.files[file] = stamp_of(file)
             if format and not os.path.isdir(file):
                 return address_of(read(file), format)
             why = f"it is none of {', '.join(FORMATS)}"

@@ -1,7 +1,7 @@
 """Which fields a text wants, and which of them the worksheet has with an answer that still holds."""
 import dataclasses
 import itertools
-from typing import Dict, Iterable, List, Mapping, Optional, Sequence, Tuple
+from typing import Dict, Iterable, List, Mapping, Optional, Sequence, Set, Tuple
 
 from tmhost import Field, Session
 
@@ -10,6 +10,7 @@ from tmhost_fences.front import Sessions
 
 # The session that says that a worksheet is that of a text. A field of it stands in front of those of a replay. It is never started.
 MARK = Session("tmhost-weave", ("true",), False)
+NOTHING: Mapping[str, Sequence[str]] = {}
 
 
 @dataclasses.dataclass
@@ -47,9 +48,9 @@ def name_in_sheet(name: str, is_pure: bool, words: Tuple[str, ...], sessions: Ma
 
 
 class Plan:
-    """`fields` are those of the worksheet that aren't left of a replay, `left` those that are."""
+    """`fields` are those of the worksheet that aren't left of a replay, `left` those that are. `running` is what interpreters that run have answered."""
 
-    def __init__(self, document: Document, sessions: Mapping[str, Session], fields: Sequence[Field]) -> None:
+    def __init__(self, document: Document, sessions: Mapping[str, Session], fields: Sequence[Field], running: Mapping[str, Sequence[str]] = NOTHING) -> None:
         marks = [at for at, field in enumerate(fields) if field.session == MARK.name]
         end = marks[0] if marks else len(fields)
         self.fields, self.left = fields[:end], fields[end:]
@@ -63,11 +64,17 @@ class Plan:
                 self.wanted.append(Wanted(fence, name, group.input, fence.begin + 2 + group.at, group.misfit))
         for name in self.words:
             have = [field for field in self.fields if field.session == name]
-            keep = keep_pure if self.of(name)[0].fence.is_pure else keep_first
-            keep(self.of(name), have)
+            if self.of(name)[0].fence.is_pure:
+                keep_pure(self.of(name), have)
+            else:
+                keep_first(self.of(name), have, running.get(name, ()))
 
     def of(self, session: str) -> List[Wanted]:
         return [wanted for wanted in self.wanted if wanted.session == session]
+
+    def before(self, wanted: Wanted) -> List[Wanted]:
+        """Those of its session that stand before a field."""
+        return list(itertools.takewhile(lambda one: one is not wanted, self.of(wanted.session)))
 
     def stale(self, session: str) -> List[Wanted]:
         return [wanted for wanted in self.of(session) if not wanted.is_kept]
@@ -76,6 +83,11 @@ class Plan:
         """Takes the lines of a text in which each fence, by its first line, stands so many lines further down."""
         for wanted in self.wanted:
             wanted.line += further[wanted.fence.begin]
+
+    @property
+    def flowing(self) -> Set[str]:
+        """Sessions whose variables flow from field to field."""
+        return {wanted.session for wanted in self.wanted if not wanted.fence.is_pure}
 
     @property
     def is_stale(self) -> bool:
@@ -96,11 +108,14 @@ class Plan:
         return {wanted.id: wanted for wanted in self.wanted if wanted.is_kept and wanted.id is not None}
 
 
-def keep_first(wanted: List[Wanted], have: List[Field]) -> None:
-    """Keeps the fields in front of the first fence that is changed."""
+def keep_first(wanted: List[Wanted], have: List[Field], running: Sequence[str]) -> None:
+    """Keeps the fields in front of the first fence that is changed, and of that fence those that an interpreter which runs has answered, where these are all that
+    it has answered."""
     same = sum(1 for _ in itertools.takewhile(lambda pair: pair[0].fits(pair[1]), zip(wanted, have)))
     if same < len(wanted):
-        same = next(at for at, one in enumerate(wanted) if one.fence is wanted[same].fence)
+        begin = next(at for at, one in enumerate(wanted) if one.fence is wanted[same].fence)
+        goes_on = begin < len(running) <= same and list(running) == [one.input for one in wanted[: len(running)]]
+        same = len(running) if goes_on else begin
     keep(zip(wanted[:same], have))
 
 

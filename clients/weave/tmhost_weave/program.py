@@ -4,7 +4,7 @@ import os
 import re
 import sys
 import tempfile
-from typing import List
+from typing import List, Optional
 
 from tmhost import TmhostError
 from tmhost.errors import plain
@@ -12,10 +12,11 @@ from tmhost.program import show_building
 from tmhost.version import ShowVersion
 
 from .cutting import LONGEST
-from .files import locked
+from .files import Changed, locked
 from tmhost_fences.troubles import Trouble
 from .places import fix_program, within
 from .targets import why_shared, why_unclear
+from .watching import Watched, watch
 from .weaving import Weave
 
 ABOUT = "Evaluates the code in a CommonMark text, and puts each answer after its fence."
@@ -23,6 +24,8 @@ NOTES = """
 With --html a page of the woven text is written, too, which stands alone: prose, code, answers, pictures, formulas, title and authors of the front matter.
 Nothing is evaluated for it a second time. It is written only where the status would be 0. It has no code of fences with echo=FALSE or include=FALSE.
 Several texts are woven in turn: the status is that of the worst, and the last line names those that failed.
+With --watch the interpreters of a text run on between its weaves: what is added at the end of a session is evaluated alone. Where something is changed that
+was evaluated, its session is started again, as by any weave. The worksheet stays open meanwhile. Control-C ends it, with the status 0 where it waits.
 The front matter of TEXT names the sessions, as `sessions: {py: [tmhost-python]}`. After the session of a fence may
 stand {whole}, {pure}, {hide} and {fold}, or {literal} where its code is a text; `fences: whole` in the front matter makes each fence one field.
 The answers are kept in the worksheet beside TEXT, whose name ends in .sheet. The program is the one that TMHOST names, tmhost on PATH, or the one
@@ -57,6 +60,7 @@ def arguments(words: List[str]) -> argparse.Namespace:
     what = parser.add_mutually_exclusive_group()
     what.add_argument("--check", action="store_true", help="evaluate nothing, write nothing, and say what would change")
     what.add_argument("--test", action="store_true", help="evaluate all again, write nothing, and show which answers of TEXT are others now, as for a CI")
+    what.add_argument("--watch", action="store_true", help="stay, and weave again whenever TEXT is saved, until Control-C; interpreters go on meanwhile")
     parser.add_argument("--output", metavar="FILE", help="where the woven text goes, in place of TEXT (-: standard output)")
     parser.add_argument("--html", metavar="FILE", help="where a page of TEXT goes, which stands alone: a name that ends in .html, or a folder (FOLDER/, where a new one has a dot in its name)")
     parser.add_argument("--seconds", type=seconds, metavar="N", help="how long a field may take (no limit)")
@@ -72,27 +76,32 @@ def arguments(words: List[str]) -> argparse.Namespace:
         parser.error("--check and --test write nothing, so there is no --html for them")
     if given.output is not None and len(given.texts) > 1:
         parser.error("--output is the place of one text, and several are given")
+    if given.watch and given.output == "-":
+        parser.error("--watch weaves again and again, so its --output is a file")
     why = (None if given.html is None else why_unclear(given.html, given.texts)) or (None if given.test else why_shared(given.texts))
     if why:
         parser.error(why)
     return given
 
 
-def run(given: argparse.Namespace, text: str) -> bool:
+def run(given: argparse.Namespace, text: str, watched: Optional[Watched]) -> bool:
     if given.test:
         with tempfile.TemporaryDirectory(prefix="tmhost-weave-") as folder:
             weave = Weave(text, None, folder, given.no_errors, given.longest)
             with within(weave.start):
                 return weave.test(given.seconds)
     with locked(os.path.realpath(text)):
-        weave = Weave(text, given.output, None, given.no_errors, given.longest, given.html, given.texts)
+        weave = Weave(text, given.output, None, given.no_errors, given.longest, given.html, given.texts, watched)
         with within(weave.start):
             return weave.check() if given.check else weave.weave(given.seconds)
 
 
-def has_succeeded(given: argparse.Namespace, text: str) -> bool:
+def has_succeeded(given: argparse.Namespace, text: str, watched: Optional[Watched] = None) -> bool:
     try:
-        return run(given, text)
+        return run(given, text, watched)
+    except Changed as changed:
+        print(f"{text}: {'it was saved meanwhile, and is woven again' if watched else changed}", file=sys.stderr)
+        return False
     except (Trouble, TmhostError, OSError) as trouble:
         print(f"{text}: {plain(trouble)}", file=sys.stderr)
         return False
@@ -107,6 +116,9 @@ def main(words: List[str]) -> int:
     try:
         fix_program()
         show_building()
+        if given.watch:
+            watch(given.texts, lambda watched: has_succeeded(given, watched.text, watched))
+            return 0
         failed = [text for text in given.texts if not has_succeeded(given, text)]
     except KeyboardInterrupt:
         return INTERRUPTED

@@ -2,7 +2,6 @@
 import difflib
 import itertools
 import os
-import re
 import sys
 from typing import Dict, Iterator, List, Optional, Sequence, Set
 
@@ -10,21 +9,23 @@ from tmhost import Died, Field, Session, Worksheet
 from tmhost.advice import SECOND, advised
 from tmhost.starting import doubt, never_answers, why_it_ends
 
-from .answers import ANSWER, ERROR, FORMULA, NO_ANSWER, PICTURE, Piece, Shown
+from .answers import ANSWER, FORMULA, NO_ANSWER, PICTURE, Piece, Shown
 from .cutting import LONGEST, cut
 from .damage import refuse_others
 from .document import ERRORS_FAIL, ERRORS_WANTED, FOLD, HIDE, TEXTLESS, Document
 from .evaluation import AT_START, UNTRIED, Evaluator
-from .files import new_name, put, put_in_folder, read
+from .files import Changed, bytes_of, new_name, put, put_in_folder, read, text_of
 from .formulas import parts_of
 from .inline import codes_in, why_unevaluated
 from .matter import Matter, matter_of
 from .page import Page
 from .pictures import Pictures
+from .pieces import pieces_of
 from .plan import Plan, Wanted
 from .sheets import AGAIN, fit, has_no_space, make, opened, remove, sheet_path, shorten
 from .targets import page_of, pages_of, place_of
 from .telling import later_ones, reason_of, why_nothing
+from .watching import Watched, lives_of
 from tmhost_fences.aside import fault_of, free_name, set_aside
 from tmhost_fences.blocks import cut as cut_line
 from tmhost_fences.targets import refuse_target
@@ -32,31 +33,6 @@ from tmhost_fences.troubles import Trouble
 
 MOST_LINES = 20  # of errors, in a message
 CLEAR = "\r\x1b[K"  # takes a line of a terminal away
-LONG_RUN = re.compile("`{255,}")  # cmark counts the backquotes of a fence up to 255, so a line of more would close any
-
-
-def text_of(data: bytes) -> str:
-    return data.decode("utf-8", "surrogateescape")
-
-
-def bytes_of(text: str) -> bytes:
-    return text.encode("utf-8", "surrogateescape")
-
-
-def pieces_of(field: Field, is_in_container: bool, pictures: Pictures) -> List[Piece]:
-    """What is shown of an answer: its formulas, its pictures, its errors, and its texts without the line feed at their ends. What shows nothing
-    leaves nothing. In quotes and lists all is one text."""
-    assert field.answer is not None
-    parts = None if is_in_container else parts_of(field.answer.output)
-    whole = [(field.answer.brief, ERROR if field.answer.errors else ANSWER)]
-    return [Piece(PICTURE, pictures.add(text)) if kind == PICTURE else piece_of(text, kind) for text, kind in parts or whole if text.strip()]
-
-
-def piece_of(text: str, kind: str) -> Piece:
-    if kind == FORMULA:
-        return Piece(FORMULA, text)
-    text = LONG_RUN.sub(lambda found: "\\x60" * len(found[0]), text)
-    return Piece(kind, text[:-1] if text.endswith("\n") else text)
 
 
 def refuse_other_bytes(data: bytes) -> None:
@@ -76,13 +52,13 @@ def first_other_line(old: bytes, new: bytes) -> int:
 class Weave:
     """`output` is where the woven text goes: None for the text itself, "-" for standard output. `folder` is where the worksheet lies, if not beside the text.
     `errors_fail` is whether an error is a failure where the options of its fence don't say; `longest` is how many bytes of an answer's text are shown. `page` is where a
-    page of it goes, a file or a folder, if anywhere, and `texts` are all those that get one by the same call."""
+    page of it goes, a file or a folder, if anywhere, and `texts` are all those that get one by the same call. `watched` is what goes on after it, if anything."""
 
     def __init__(
         self, name: str, output: Optional[str], folder: Optional[str] = None, errors_fail: bool = False, longest: int = LONGEST, page: Optional[str] = None,
-        texts: Sequence[str] = (),
+        texts: Sequence[str] = (), watched: Optional[Watched] = None,
     ) -> None:
-        self.name, self.path = name, os.path.realpath(name)
+        self.name, self.path, self.watched = name, os.path.realpath(name), watched
         self.errors_fail, self.longest = errors_fail, longest
         self.target = None if output == "-" else self.path if output is None else os.path.realpath(output)
         self.sheet_path = sheet_path(os.path.join(folder, os.path.basename(self.path)) if folder else self.path)
@@ -184,14 +160,15 @@ class Weave:
         return sheet or opened(self.sheet_path, self.say)
 
     def _evaluated(self, seconds: Optional[float]) -> Plan:
-        with self.opened_or_made() as sheet:
-            self.plan = plan = Plan(self.document, sheet.sessions, sheet.fields)
+        with lives_of(self.watched, self.sheet_path, self.opened_or_made) as lives:
+            sheet = lives.sheet
+            self.plan = plan = Plan(self.document, sheet.sessions, sheet.fields, lives.all_answered)
             fit(sheet, plan)
             for name in plan.words:
                 why = doubt(plan.words[name]) if plan.stale(name) else None
                 if why:
                     self.say(f"{plan.of(name)[0].session_in_text}: {why}")
-            evaluator = Evaluator(sheet, plan, seconds, self.begun, self.late)
+            evaluator = Evaluator(lives, plan, seconds, self.begun, self.late, self.watched.is_outdated if self.watched else None)
             try:
                 evaluator.evaluate_all()
             finally:
@@ -199,6 +176,8 @@ class Weave:
             self.fields = {field.id: field for field in sheet.fields}
             if self.keeps and plan.is_stale:
                 shorten(sheet, self.sheet_path)
+            if self.watched:
+                lives.end_all_but(plan.flowing)
         for name in plan.words if self.keeps else ():
             self.tell(name, plan, evaluator)
         return plan
@@ -260,11 +239,20 @@ class Weave:
             sys.stdout.buffer.flush()
             return
         remove(new_name(self.target))
-        if self.target == self.path and read(self.path) != self.data:
-            raise Trouble("the text was changed meanwhile, and stays as it is; the answers are kept: weave it again")
-        if not os.path.exists(self.target) or read(self.target) != woven:
+        if self.target == self.path:
+            self.write_over(woven)
+        elif not os.path.exists(self.target) or read(self.target) != woven:
             put(self.target, woven)
         self.pictures.remove_others()
+
+    def write_over(self, woven: bytes) -> None:
+        """Writes over the text, as long as it is the one that was woven."""
+        if read(self.path) != self.data:
+            raise Changed
+        if woven != self.data:
+            stamp = put(self.path, woven, self.data)
+            if self.watched:
+                self.watched.wrote(stamp)
 
     # ---- what is asked for
 
@@ -275,6 +263,8 @@ class Weave:
         self.write(bytes_of(self.document.checked(shown)))
         if self.target == self.path:
             plan.move(self.document.moved(shown))
+        if self.watched and self.document.fences and not plan.is_stale and not self.page:
+            self.say("nothing was to evaluate")
         is_answered = self.is_answered(plan)
         return self.write_page(shown, is_answered) and is_answered
 
@@ -288,6 +278,8 @@ class Weave:
         html = page.html(os.path.splitext(os.path.basename(self.path))[0])
         put_in_folder(self.page_place, html)
         self.say(f"{self.page} is written")
+        if self.watched:
+            self.watched.takes(page.files)
         for text in page.reported:
             self.say(text)
         return page.is_whole
