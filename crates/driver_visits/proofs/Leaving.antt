@@ -23,7 +23,7 @@ use Rattle.driver.specs.Items.{RunStep, ask, printed}
 use Rattle.driver.specs.Place.{Rules}
 use Rattle.driver.specs.Laws.{trace}
 use Rattle.driver.specs.Runs.{left_at_end}
-use Rattle.driver.specs.Over.{Over, ProgramParts, RanOver, first_place, not_opened, program_parts, ran_over}
+use Rattle.driver.specs.Over.{Over, ProgramParts, RanOver, first_place, not_opened, ran_over}
 use Rattle.driver_visits.specs.declared.crashed.AfterCrash.{AfterCrash}
 use Rattle.driver_visits.specs.declared.crashed.AfterCrash.TheVariants as crashed_to
 use Rattle.driver_visits.specs.Earlier.{CrashesLeave, EarlierUses, LeftWith}
