@@ -61,7 +61,7 @@ pub record ReportView : Type 0 where
 abbrev pub report_words : Bool → Bool → Bool → Option (List ℕ) → ReportView
 report_words accept whole json format = record { accept = accept; whole = whole; json = json; format = format }
 
--- they ask for this report
+-- these words as contracts see them
 abbrev pub report_view : ReportWords → ReportView
 report_view words = report_words words.accept words.whole words.json (option_map (λ text. text.now) words.format)
 
@@ -110,7 +110,7 @@ pub record FieldView : Type 0 where
 abbrev pub field_words : Option (List ℕ) → Option (List ℕ) → Option (List ℕ) → Bool → FieldView
 field_words only left_out compared all = record { only = only; left_out = left_out; compared = compared; all = all }
 
--- they name these fields
+-- these words as contracts see them
 abbrev pub fields_view : FieldWords → FieldView
 fields_view words = field_words (option_map (λ text. text.now) words.only) (option_map (λ text. text.now) words.left_out) (option_map (λ text. text.now) words.compared) words.all
 
@@ -121,12 +121,12 @@ AsksFields words chosen = (session_asked words.only ≡ Some chosen.only) × (id
 abbrev pub Asks : ReportView → FieldView → Request → Type 0
 Asks words fields request = AsksReport words request.format × AsksFields fields request.chosen
 
--- this has none, or there was no memory
-abbrev pub AsksFor : ReportView → FieldView → RequestFault → Type 0
-AsksFor words fields fault.Format = format_asked words.json words.format ≡ Err fault.Format
-AsksFor words fields fault.Session = session_asked fields.only ≡ None
-AsksFor words fields fault.Ids = (ids_asked fields.left_out ≡ None) ⊎ (compared_asked fields.compared ≡ None)
-AsksFor words fields fault.OutOfMemory = Unit {0}
-AsksFor words fields fault.Accepting = AsksNoReport false words
-AsksFor words fields fault.Whole = AsksNoReport true words
-AsksFor words fields fault.Both = format_asked words.json words.format ≡ Err fault.Both
+-- what is asked for has no form, for this reason, or there was no memory
+abbrev pub AsksNone : ReportView → FieldView → RequestFault → Type 0
+AsksNone words fields fault.Format = format_asked words.json words.format ≡ Err fault.Format
+AsksNone words fields fault.Session = session_asked fields.only ≡ None
+AsksNone words fields fault.Ids = (ids_asked fields.left_out ≡ None) ⊎ (compared_asked fields.compared ≡ None)
+AsksNone words fields fault.OutOfMemory = Unit {0}
+AsksNone words fields fault.Accepting = AsksNoReport false words
+AsksNone words fields fault.Whole = AsksNoReport true words
+AsksNone words fields fault.Both = format_asked words.json words.format ≡ Err fault.Both

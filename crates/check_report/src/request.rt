@@ -102,7 +102,7 @@ fn in_whole_alone(format: Format, accept: bool) -> Option<Format>
 /// The report that is asked for.
 fn read_report(words: ReportWords<'_>) -> Result<Format, RequestFault>
     ensures ok { IfOk result (asked.AsksReport (asked.report_view words.entry)) }
-    ensures err { IfErr result (asked.AsksFor (asked.report_view words.entry)
+    ensures err { IfErr result (asked.AsksNone (asked.report_view words.entry)
         (asked.field_words None None None false)) }
 {
     let format = match read_format(words.json, words.format) {
@@ -144,7 +144,7 @@ fn read_session(name: Option<&str>) -> Result<Option<Name>, RequestFault>
 fn read_left_out(alloc: Global, text: Option<&str>) -> Result<Sequence<Ids>, RequestFault>
     ensures ok { IfOk result (λ ids.
         asked.ids_asked (option_map (λ text. text.now) text.entry) ≡ Some ids) }
-    ensures err { IfErr result (asked.AsksFor (asked.report_words false false false None)
+    ensures err { IfErr result (asked.AsksNone (asked.report_words false false false None)
         (asked.field_words None (option_map (λ text. text.now) text.entry) None false)) }
 {
     let Some(text) = text else {
@@ -161,7 +161,7 @@ fn read_left_out(alloc: Global, text: Option<&str>) -> Result<Sequence<Ids>, Req
 fn read_compared(alloc: Global, text: Option<&str>) -> Result<Option<Sequence<Ids>>, RequestFault>
     ensures ok { IfOk result (λ ids.
         asked.compared_asked (option_map (λ text. text.now) text.entry) ≡ Some ids) }
-    ensures err { IfErr result (asked.AsksFor (asked.report_words false false false None)
+    ensures err { IfErr result (asked.AsksNone (asked.report_words false false false None)
         (asked.field_words None None (option_map (λ text. text.now) text.entry) false)) }
 {
     let Some(text) = text else {
@@ -203,7 +203,7 @@ pub struct FieldWords<'a> {
 /// The fields that the words ask for.
 fn read_chosen(alloc: Global, words: FieldWords<'_>) -> Result<Chosen, RequestFault>
     ensures ok { IfOk result (asked.AsksFields (asked.fields_view words.entry)) }
-    ensures err { IfErr result (asked.AsksFor (asked.report_words false false false None)
+    ensures err { IfErr result (asked.AsksNone (asked.report_words false false false None)
         (asked.fields_view words.entry)) }
 {
     let only = match read_session(words.only) {
@@ -236,7 +236,7 @@ pub fn read_request(
     ensures ok { IfOk result (asked.Asks (asked.report_view report.entry)
         (asked.fields_view fields.entry)) }
     ensures within { IfOk result (λ request. request.limit ≡ limit) }
-    ensures err { IfErr result (asked.AsksFor (asked.report_view report.entry)
+    ensures err { IfErr result (asked.AsksNone (asked.report_view report.entry)
         (asked.fields_view fields.entry)) }
 {
     let format = match read_report(report) {

@@ -27,7 +27,7 @@ use Rattle.driver.specs.Over.{Over, ProgramParts, RanOver, first_place, not_open
 use Rattle.driver_visits.specs.declared.crashed.AfterCrash.{AfterCrash}
 use Rattle.driver_visits.specs.declared.crashed.AfterCrash.TheVariants as crashed_to
 use Rattle.driver_visits.specs.Earlier.{CrashesLeave, EarlierUses, LeftWith}
-use Rattle.driver_visits.specs.Runs.{CrashOpens, LeavesPrefix, LeavesPrinted, OpenedOn, OpeningLeaves, OpensAfterCrash, OpensCrashed, RunsThenCrashes, RunsThenOpens, not_begun, ran, run_reporting, run_act, unknown_reports, unopened, was_cut, with_disk}
+use Rattle.driver_visits.specs.Runs.{CrashOpens, LeavesPrefix, LeavesPrinted, OpenedAgain, OpeningLeaves, OpensAfterCrash, OpensCrashed, RunsThenCrashes, RunsThenOpens, not_begun, ran, run_reporting, run_act, unknown_reports, unopened, was_cut, with_disk}
 use Rattle.driver_visits.specs.Visits.{turn_of}
 use Rattle.driver_visits.proofs.Parts.{Parted, parted}
 use Rattle.driver_visits.proofs.Visiting.{durable_at, visit_by}
@@ -106,7 +106,7 @@ module _ {A C K D : Type 0} (hosts : HostsInTurn) (one : OneSheet) (R : Rules A 
       after kept first.disk.room e.ops e.image e.acts e.allowed e.found (subst (λ (i : Image). Uses first.disk.room e.image e.acts i) (sym looks.content) e.came)
 
   pub runs_then_opens : (disk : DiskView) (answer : Result (Unit {0}) RunFault) → Over R first (given_back disk) answer → IsTrue disk.keeps_model → IsImage disk.history.now (bytes_on disk)
-      → OpensAfterActs disk opened → OpenedOn disk back.disk → RunsThenOpens R first back opened answer
+      → OpensAfterActs disk opened → OpenedAgain disk back.disk → RunsThenOpens R first back opened answer
   runs_then_opens disk answer (ran_over reported it) kept image after on = ran reported disk on it (leaves_prefix disk reported it kept image after)
   runs_then_opens disk answer (not_opened why was) kept image after on = unopened why disk on was
       (λ restarted crash crashed. opening_leaves (bytes_on first.disk) first.disk disk crash restarted (was.looks model) crashed)

@@ -13,7 +13,7 @@ use Rattle.sheet_check.specs.Check.{OnlyRead}
 use Rattle.sheet_check.specs.declared.named.CheckFault.{CheckFault}
 use Rattle.driver_visits.specs.Acceptances.{AtMostOneMore, ReportedAcceptance}
 use Rattle.driver_visits.specs.Earlier.{CrashesLeave, EarlierUses}
-use Rattle.driver_visits.specs.Runs.{OpenedOn}
+use Rattle.driver_visits.specs.Runs.{OpenedAgain}
 
 -- A case was reported after those before it, when the disk was in this state. From that state on a crash leaves a worksheet with what was accepted of this
 -- case and of those.
@@ -36,6 +36,6 @@ pub data LeavesAnswers {D : Type 0} (x : Acceptance) (at_first : Option (List �
 -- An acceptance was answered so, by the law of acceptances, and left this disk. That was opened again, which left the disk of `x`.
 pub record AcceptsThenOpens {D : Type 0} (x : Acceptance) (text written : Option (List ℕ)) (answer : Result Counts CheckFault) (opened : Result HostView (OpenFault D)) : Type 0 where
   pub back : DiskView
-  pub on : OpenedOn back x.back
+  pub on : OpenedAgain back x.back
   pub reported : ReportedAcceptance (acceptance x.held x.disk back) text written answer
   pub leaves : (e : EarlierUses x.disk) → LeavesAnswers (acceptance x.held x.disk back) text opened e reported.cases

@@ -65,7 +65,7 @@ pub record LeavesPrefix {A C K D : Type 0} (R : Rules A C K) (first last : Progr
   pub opens : OpensSo first.disk.room e.ops e.image (bytes_on last.disk) (e.acts ++ run_act (turn_of it.steps unreported) ∷ []) opened
 
 -- A disk was opened, which left that and no image that is new.
-pub record OpenedOn (disk later : DiskView) : Type 0 where
+pub record OpenedAgain (disk later : DiskView) : Type 0 where
   pub same : SameDisk disk later
   pub looks : Looks disk.history later.history
 
@@ -76,9 +76,9 @@ with_disk disk back = program_parts disk back.sources back.sink back.agenda
 -- What a run over a disk, and an opening after it, came to: it ran, and leaves that; or it didn't open the worksheet, left what was there, and that is
 -- what is opened, unless it fails again. What is given back has the disk as the opening left it.
 pub data RunsThenOpens {A C K D : Type 0} (R : Rules A C K) (first back : ProgramParts A C K) (opened : Result HostView (OpenFault D)) : Result (Unit {0}) RunFault → Type 0 where
-  ran : (answer : Result (Unit {0}) RunFault) (disk : DiskView) → OpenedOn disk back.disk → (it : RanOver R first (with_disk disk back) answer)
+  ran : (answer : Result (Unit {0}) RunFault) (disk : DiskView) → OpenedAgain disk back.disk → (it : RanOver R first (with_disk disk back) answer)
       → ((e : EarlierUses first.disk) → LeavesPrefix R first (with_disk disk back) answer opened it e) → RunsThenOpens R first back opened answer
-  unopened : (why : OpenCause) (disk : DiskView) → OpenedOn disk back.disk → WasNotOpened first (with_disk disk back) why → OpeningLeaves first.disk disk.history
+  unopened : (why : OpenCause) (disk : DiskView) → OpenedAgain disk back.disk → WasNotOpened first (with_disk disk back) why → OpeningLeaves first.disk disk.history
       → ((e : EarlierUses first.disk) → OpensSo first.disk.room e.ops e.image (bytes_on disk) e.acts opened) → RunsThenOpens R first back opened (Err (fault.Open why))
 
 -- A crash by this choice left an image of a disk, and this was opened on a disk that holds it: what the theorem says.

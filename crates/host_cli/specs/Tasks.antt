@@ -3,7 +3,7 @@ use Rattle.std.specs.Prelude.{◌≡◌, ◌⊎◌, ◌||◌, ℕ, true, false, 
 use Rattle.std.specs.Bool.{MatchBool}
 use Rattle.std.specs.Io.KnownBytes.{Appends}
 use Rattle.clap.specs.Words.{Text}
-use Rattle.check_report.specs.Requests.{Asks, AsksFor, field_words, report_words}
+use Rattle.check_report.specs.Requests.{Asks, AsksNone, field_words, report_words}
 use Rattle.check_report.specs.declared.report.Format.{Format as Report}
 use Rattle.check_report.specs.declared.report.Format.TheVariants as report
 use Rattle.check_report.specs.declared.request.Request.{Request}
@@ -208,7 +208,7 @@ module _ {Y D P S I W E Q : Type 0} (o : OutsideView D P S I W E) where
   abbrev pub ChecksWithin : Outside Y D P S I W E Q → Outside Y D P S I W E Q → Ending → Text → CheckView → CheckBounds → Type 0
   ChecksWithin old new ending path words b = (read : Result Request RequestFault) × IfOk read (Asks (report_words words.accept words.whole words.json words.format) (field_words words.only words.leave_out words.compare words.all))
       × IfOk read (λ request. request.limit ≡ b.limit)
-      × IfErr read (AsksFor (report_words words.accept words.whole words.json words.format) (field_words words.only words.leave_out words.compare words.all))
+      × IfErr read (AsksNone (report_words words.accept words.whole words.json words.format) (field_words words.only words.leave_out words.compare words.all))
       × MatchResult read (λ request. ChecksPaths old new ending path words (check_plan request b.jobs)) (ChecksNone old new ending)
 
   abbrev pub ChecksJobs : Outside Y D P S I W E Q → Outside Y D P S I W E Q → Ending → Text → CheckView → Option ℕ → Type 0

@@ -161,8 +161,8 @@ pub(crate) fn are_several(paths: &[&str]) -> bool
     paths.len() > 1
 }
 
-/// Whether numbers of fields are named, which no several worksheets have alike.
-fn refuse_numbers(left_out: Option<&str>, compared: Option<&str>) -> Option<SeveralFault>
+/// Why several worksheets aren't checked where numbers of fields are named: these are those of one of them. None where none are.
+fn numbers_fault(left_out: Option<&str>, compared: Option<&str>) -> Option<SeveralFault>
     ensures { result ≡ numbers_of_several (word_text left_out.entry) (word_text compared.entry) }
 {
     match (left_out, compared) {
@@ -183,7 +183,7 @@ pub(crate) fn several_fault(
         (word_text compared.entry) }
 {
     match format {
-        Report::Text | Report::Whole => refuse_numbers(left_out, compared),
+        Report::Text | Report::Whole => numbers_fault(left_out, compared),
         Report::Tap | Report::Junit | Report::Json => Some(SeveralFault::Format),
         Report::Accepting => Some(SeveralFault::Accepting),
     }

@@ -2,6 +2,7 @@
 //! Into a pipe or a file nothing of it goes, but for the reason, where the environment asks for it.
 use crate::startup::words;
 use command_words::{Task, read_words};
+use sheet_files::is_output;
 use std::fs::OpenOptions;
 use std::io::{IsTerminal, Write};
 use std::os::unix::fs::MetadataExt;
@@ -87,25 +88,63 @@ fn folder_of(path: &str) -> &str {
     }
 }
 
-/// Says that something has the name of a new file.
-fn explain_name(rt: &HostRuntime, path: &str) {
+/// Says of the name of a new file that something had it before, or that the file was made and is left.
+fn explain_name(rt: &HostRuntime, path: &str, taken: bool) {
+    if fs::symlink_metadata(rt, path).is_err() {
+        return;
+    }
+    let why = if taken {
+        "it exists"
+    } else {
+        "it was made, and is left; is there room on its disk?"
+    };
+    let _ = writeln!(rt.stderr(), "tmhost: {path}: {why}");
+}
+
+/// The path of the second file of a worksheet.
+fn second_of(rt: &HostRuntime, path: &str) -> Option<String> {
+    let mut second = String::from_str(rt.alloc(), path).ok()?;
+    second.push_str(".alt").ok()?;
+    Some(second)
+}
+
+/// Whether something has the name of one of the two files of a worksheet.
+fn is_taken(rt: &HostRuntime, path: &str) -> bool {
     if fs::symlink_metadata(rt, path).is_ok() {
-        let _ = writeln!(rt.stderr(), "tmhost: {path}: it exists");
+        return true;
+    }
+    match second_of(rt, path) {
+        Some(second) => fs::symlink_metadata(rt, second.as_str()).is_ok(),
+        None => false,
     }
 }
 
+/// Whether something has the name of a new worksheet that the program is to make. It is asked before the program does anything.
+pub fn is_new_taken(rt: &HostRuntime) -> bool {
+    let Ok(words) = words(rt) else {
+        return false;
+    };
+    let Ok(task) = read_words(rt.alloc(), words.as_slice()) else {
+        return false;
+    };
+    for named in paths_of(&task) {
+        if let Some((path, Use::Makes)) = named {
+            return is_taken(rt, path);
+        }
+    }
+    false
+}
+
 /// Says why the two files of a new worksheet can't be made: their folder, or what has the name of one.
-fn explain_new(rt: &HostRuntime, path: &str) {
+fn explain_new(rt: &HostRuntime, path: &str, taken: bool) {
     let folder = folder_of(path);
     if let Err(error) = fs::metadata(rt, folder) {
         let _ = writeln!(rt.stderr(), "tmhost: {folder}: {error}");
         return;
     }
-    explain_name(rt, path);
-    if let Ok(mut second) = String::from_str(rt.alloc(), path) {
-        if second.push_str(".alt").is_ok() {
-            explain_name(rt, second.as_str());
-        }
+    explain_name(rt, path, taken);
+    if let Some(second) = second_of(rt, path) {
+        explain_name(rt, second.as_str(), taken);
     }
 }
 
@@ -118,6 +157,11 @@ fn explain_file(rt: &HostRuntime, path: &str, writes: bool) {
         Ok(found) => {
             if !found.is_file() {
                 let _ = writeln!(rt.stderr(), "tmhost: {path}: it is no plain file");
+            } else if is_output(rt, &found) {
+                let _ = writeln!(
+                    rt.stderr(),
+                    "tmhost: {path}: the output or the errors of this program go to it"
+                );
             } else if found.nlink() > 1 {
                 let _ = writeln!(
                     rt.stderr(),
@@ -146,8 +190,9 @@ fn is_asked_to_explain(rt: &HostRuntime) -> bool {
 }
 
 /// Says on a terminal, or where the environment asks for it, why the files of a program with this status can't be had,
-/// where the system has a reason. It asks the system once more, so it says nothing where the reason is gone.
-pub fn explain(rt: &HostRuntime, status: u8) {
+/// where the system has a reason. It asks the system once more, so it says nothing where the reason is gone. `taken` is whether
+/// something had the name of a new worksheet before.
+pub fn explain(rt: &HostRuntime, status: u8, taken: bool) {
     if status != 1 || !(rt.stderr().is_terminal() || is_asked_to_explain(rt)) {
         return;
     }
@@ -162,7 +207,7 @@ pub fn explain(rt: &HostRuntime, status: u8) {
     }
     for named in paths_of(&task) {
         match named {
-            Some((path, Use::Makes)) => explain_new(rt, path),
+            Some((path, Use::Makes)) => explain_new(rt, path, taken),
             Some((path, Use::Reads)) => explain_file(rt, path, false),
             Some((path, Use::Writes)) => explain_file(rt, path, true),
             None => {}

@@ -303,8 +303,20 @@ failing 'a sync of data that fails' fdatasync EIO 1 'fault 32 Disk\n' run sheet 
 failing 'a sync of data that fails while a worksheet is made' fdatasync EIO 1 'fault 32 Disk\n' create made
 failing 'a read that fails' pread64 EIO 1 'fault 32 Disk\n' show sheet
 failing 'a lock that fails' flock EIO 1 'fault 32 Disk\n' show sheet
-failing 'a file system without a service of locks' flock ENOLCK 0 '#1 a\n> x\n?\n' show sheet
+failing 'a lock that is not lent' flock ENOLCK 1 'fault 32 Disk\n' show sheet
+failing 'a file system without locks' flock EOPNOTSUPP 0 '#1 a\n> x\n?\n' show sheet
 rm -f made made.alt
+
+# Programs whose own output goes to a file of the worksheet: it isn't opened, and nothing is written to it.
+was=$(sums sheet sheet.alt)
+own() {
+    compare "$1" "$2 $(sums sheet sheet.alt)" "fault 32 Disk
+status 1 $was"
+}
+own 'output to its first file' "$(echo 'set 1 y' | "$tmhost" run sheet 2>&1 >>sheet; echo "status $?")"
+own 'output to its second file' "$(echo 'set 1 y' | "$tmhost" run sheet 2>&1 >>sheet.alt; echo "status $?")"
+own 'output from its first byte on' "$(echo 'set 1 y' | "$tmhost" run sheet 2>&1 1<>sheet; echo "status $?")"
+own 'output of a program that reads' "$("$tmhost" show sheet 2>&1 >>sheet; echo "status $?")"
 
 # Inputs and outputs that fail.
 compare 'a script that is a folder' "$(answer run sheet </)" "$(ending 'fault 40 Input\n' 1)"

@@ -18,10 +18,10 @@ pub(crate) struct Suite<'a> {
     pub(crate) sheet: &'a Sheet,
 }
 
-/// How fields are checked that are evaluated side by side.
+/// How a worksheet is checked: what is asked for, and in how many sessions at a time.
 #[derive(Clone, Copy)]
 pub struct Beside<'a> {
     pub manner: Manner<'a>,
-    /// How many sessions have a field at work at a time, at most.
+    /// How many sessions have a field at work at a time, at most. With 1 one field goes after another.
     pub jobs: u32,
 }

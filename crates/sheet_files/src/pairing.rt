@@ -4,6 +4,7 @@ ghost use Rattle.sheet_files.specs.Names.{Brings, LocksBy, OpenedFor, second_nam
 ghost use Rattle.sheet_files.specs.declared.sheet_file.Lock.TheVariants.{Exclusive};
 
 use crate::holding::{Closed, Held, hold_closed};
+use crate::outputs::is_output;
 use crate::programs::is_there_to_start;
 use crate::{HoldFault, Identity, Lock, Names, OpenedFile, SheetFile};
 use journal::FIRST_OF_SECOND;
@@ -84,11 +85,13 @@ fn is_in_use<F: SheetFile>(file: &F, lock: Lock) -> io::Result<bool>
 }
 
 /// Opens a plain file that is there: to read alone for a shared lock, else to write too. What is none
-/// is refused before it is opened, since opening a pipe would wait for its other end.
+/// is refused before it is opened, since opening a pipe would wait for its other end; and so is one to which
+/// the program's own output goes.
 fn open_plain<R: Files>(rt: &R, path: &str, lock: Lock) -> io::Result<OpenedFile<R::File>>
     ensures { OpenedFor lock result }
 {
-    if !fs::symlink_metadata(rt, path)?.is_file() {
+    let found = fs::symlink_metadata(rt, path)?;
+    if !found.is_file() || is_output(rt, &found) {
         return Err(io::Error::from(ErrorKind::InvalidInput));
     }
     let reads_only = matches!(lock, Lock::Shared);

@@ -10,10 +10,11 @@ use std::process::ExitCode;
 fn main(rt: HostRuntime) -> ExitCode {
     let words = startup::words(&rt);
     terminal::say_what_is_awaited(&rt);
+    let taken = terminal::is_new_taken(&rt);
     let ending = match startup::outside(&rt) {
         Ok(outside) => perform(rt.alloc(), words, outside).ending,
         Err(_) => end_program(Err(RunFault::OutOfMemory), &mut rt.stderr()),
     };
-    terminal::explain(&rt, ending.status);
+    terminal::explain(&rt, ending.status, taken);
     ExitCode::from(ending.status)
 }
