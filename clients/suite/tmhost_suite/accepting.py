@@ -6,6 +6,7 @@ from tmhost_fences.troubles import Trouble
 from tmhost_weave.files import put
 
 from .reports import Reported
+from .results import WITHOUT_ANSWER
 from .rules import as_wanted
 from .text import Text
 
@@ -17,7 +18,7 @@ def accept(text: Optional[Text], reported: List[Reported], asks: Optional[Callab
     that stands before them."""
     if text is None:
         raise Trouble("nothing is accepted into a file of this form: --convert writes the text form")
-    wrong = [at for at, one in enumerate(reported) if one.verdict in ("differs", "new", "ended")]
+    wrong = [at for at, one in enumerate(reported) if one.verdict in ("differs", "new", *WITHOUT_ANSWER)]
     said: List[str] = []
     if asks is None:
         lost = [at for at in wrong if reported[at].is_lost]

@@ -2,7 +2,7 @@
 from typing import Callable, Dict, List, NamedTuple, Sequence
 
 from .cases import Case, Suite
-from .kept import Result
+from .results import Result
 
 
 class Step(NamedTuple):
@@ -13,7 +13,7 @@ class Step(NamedTuple):
 
 
 class Agenda(NamedTuple):
-    """`past` is what a run that was broken off had done before all steps. Of that `needed` is replayed, as far as no interpreter ended after it."""
+    """`past` is what a run that was cut off had done before all steps. Of that `needed` is replayed, as far as no interpreter ended after it."""
 
     past: List[int]
     needed: List[int]

@@ -24,7 +24,7 @@ def is_named(given: argparse.Namespace, case: Case) -> bool:
 def chooser(given: argparse.Namespace, path: str) -> Callable[[int, Case], bool]:
     """Which cases of a suite are run."""
     tags = tags_of(given)
-    last = worksheets.last_failed(worksheets.sheet_path(path, given.runs), path) if given.rerun else None
+    last = worksheets.last_failed(worksheets.sheet_path(path, given.runs)) if given.rerun else None
     failed = None if last is None else frozenset(last)
 
     def is_chosen(at: int, case: Case) -> bool:

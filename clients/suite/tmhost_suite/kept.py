@@ -4,22 +4,20 @@ import dataclasses
 import hashlib
 import json
 import os
-import re
 import subprocess
 import sys
 import tempfile
-import threading
 import time
-from typing import Callable, Dict, List, NamedTuple, Optional, Set, Tuple
+from typing import Callable, Dict, List, NamedTuple, Optional, Tuple
 
-from tmhost import Answered, Banner, Cell, Died, Ended, Event, InUse, NoWorksheet, Partial, Refused, Stopped, Worksheet, find_program
+from tmhost import Cell, Died, InUse, NoWorksheet, Refused, Worksheet, find_program
 from tmhost.advice import SECOND, advised, reason_of_end
-from tmhost.starting import LONGEST_TAIL, last_lines
 from tmhost_fences.aside import UNREADABLE, fault_of, set_aside
 from tmhost_fences.troubles import Trouble
 
 from .cases import Suite
 from .forms import FOLDER
+from .results import BROKEN, LATER, WRONG, Losses, Result
 from .shown import Shown, shown_of
 
 # The session of notes: what a run is of, and what came of each case. It is never started.
@@ -27,85 +25,11 @@ NOTES, NEVER = "tmhost-suite", ("true",)
 MOST = 9_500  # of the fields of a suite and a note for each case; a worksheet has 10,000, and long answers have notes, too
 PART = 250  # characters, each of which JSON writes in up to 12
 PATIENCE, PAUSE = 10.0, 0.05  # seconds; the program of a run that was killed needs a moment to end
-MOMENT = 0.3  # seconds; one that has a worksheet for longer runs its suite
+MOMENT = 0.3  # seconds; that a worksheet is waited for longer is said
 DISK = "Disk"  # the faults of a disk that fails, or is full
 AGAIN = "run the suite again"  # makes a worksheet again that was removed
 ENDED = "ended"  # in the last note of a run that came to its end, so there is nothing in it to go on with
-PROTOCOL = re.compile(rb"\x02[^:#]*[:#]|[\x05\x1b]")  # what begins and ends blocks, beside their text
 ROOM = 65_536  # bytes that a new worksheet finds on a disk that isn't full
-
-# What can come of a case: what is as wanted, what isn't, and what is the tool's own and went wrong.
-PASSED = ("ok", "flaky", "xfail", "skip", "setup")
-WRONG = ("differs", "new", "xpass", "ended")
-BROKEN = "broken"
-
-
-@dataclasses.dataclass
-class Result:
-    """What came of a case. `got` is what is compared, and `errors` are those that are apart; `tries` is how often it was evaluated; `began_anew` says that its interpreter was
-    started for it, other than for the first case of its session; `is_error` that an answer is an error, or has one; `is_lost` that a field has no
-    answer; `has_started` that its interpreter came so far that it could have given one; `after_end` is the place of the case that ended the interpreter of
-    its session before, with which went what it may need; `end` is why its interpreter ended in it, as "Ended", and `said` what that had written last. These names are those in the notes of a run, which may be one of an earlier version that was broken off: so they stay."""
-
-    got: str
-    seconds: float
-    tries: int = 1
-    began_anew: bool = False
-    is_error: bool = False
-    is_lost: bool = False
-    errors: str = ""
-    verdict: str = ""
-    has_started: bool = True
-    after_end: Optional[int] = None
-    end: str = ""
-    said: str = ""
-
-
-# The names that notes didn't have at first, with what they are mostly.
-LATER: Dict[str, object] = {"has_started": True, "after_end": None, "end": "", "said": ""}
-
-
-class Loss(NamedTuple):
-    """What is known of a line that was lost: whether its interpreter was ready, which greets then, and the last lines that it wrote after its last answer:
-    what adapters pass on of standard error, and of an answer that didn't come to its end."""
-
-    has_started: bool
-    said: str
-
-
-class Losses:
-    def __init__(self, sheet: Worksheet) -> None:
-        self._greeted: Set[Tuple[str, int]] = set()
-        self._written: Dict[str, bytes] = {}  # of each session since its last answer
-        self._lost: Dict[int, Loss] = {}  # by the number of a cell
-        self._came = threading.Condition()
-        sheet.listen(self._take)
-
-    def _take(self, event: Event) -> None:
-        with self._came:
-            if isinstance(event, Partial):
-                self._written[event.session] = (self._written.get(event.session, b"") + event.data)[-LONGEST_TAIL:]
-            elif isinstance(event, Banner):
-                self._greeted.add((event.session, event.life))
-                self._written.pop(event.session, None)
-            elif isinstance(event, Answered):
-                self._written.pop(event.session, None)
-            elif isinstance(event, (Ended, Stopped)):
-                said = PROTOCOL.sub(b"", self._written.pop(event.session, b"")).decode("utf-8", "backslashreplace")
-                for item in event.lost:
-                    self._lost[item.id] = Loss((event.session, event.life) in self._greeted, last_lines(said))
-                self._came.notify_all()
-
-    def forget(self, cell: Cell) -> None:
-        """Before a cell is evaluated: what was lost of it before isn't meant."""
-        with self._came:
-            self._lost.pop(cell.id, None)
-
-    def of(self, cell: Cell) -> Loss:
-        """Of a cell whose line was lost. What is reported to listeners comes a moment later than what is reported to who waits."""
-        with self._came:
-            self._came.wait_for(lambda: cell.id in self._lost, PATIENCE)
-            return self._lost.pop(cell.id, Loss(True, ""))
 
 
 @dataclasses.dataclass
@@ -171,8 +95,8 @@ def program_of(suite: Suite) -> List[str]:
     return words if suite.folder is None else ["sh", "-c", 'cd -- "$0" && exec "$@"', suite.folder, *words]
 
 
-def opened(path: str, of: str, suite: Optional[Suite] = None) -> Worksheet:
-    """The worksheet of a suite at `of`. With the suite it is opened for a run."""
+def opened(path: str, suite: Optional[Suite] = None) -> Worksheet:
+    """The worksheet of a suite. With the suite it is opened for a run."""
     began = time.monotonic()
     is_said = False
     while True:
@@ -184,16 +108,16 @@ def opened(path: str, of: str, suite: Optional[Suite] = None) -> Worksheet:
                 raise Trouble(advised(used, path)) from None
             if waited > MOMENT and not is_said:
                 is_said = True
-                print(f"tmhost-suite: {of}: another tmhost-suite runs it; waiting", file=sys.stderr)
+                print(f"tmhost-suite: {path}: another program has it; waiting", file=sys.stderr)
             time.sleep(PAUSE)
 
 
-def opened_or_none(path: str, of: str, suite: Optional[Suite] = None) -> Optional[Worksheet]:
+def opened_or_none(path: str, suite: Optional[Suite] = None) -> Optional[Worksheet]:
     """None where there is none, as where a run that was waited for has removed it."""
     if not os.path.lexists(path):
         return None
     try:
-        return opened(path, of, suite)
+        return opened(path, suite)
     except NoWorksheet:
         return None
 
@@ -210,7 +134,7 @@ def why_ended(died: Died, path: str, needs: Optional[str]) -> str:
 def clear(path: str, of: str, say: Callable[[str], None]) -> None:
     """Takes away what an earlier run kept. Where that can't be read, it gets another name. One of a run that goes on isn't touched, nor is one of others."""
     try:
-        sheet = opened_or_none(path, of)
+        sheet = opened_or_none(path)
     except Died as died:
         if died.number not in UNREADABLE:
             raise
@@ -260,7 +184,7 @@ def begin(path: str, suite: Suite, say: Callable[[str], None]) -> Kept:
         raise Trouble(f"its {notes:,} cases with {fields:,} fields are more than {MOST:,} in all, which a run can keep: make two suites of it")
     clear(path, suite.path, say)
     make(path)
-    sheet = opened(path, suite.path, suite)
+    sheet = opened(path, suite)
     try:
         return fill(sheet, suite)
     except BaseException:
@@ -296,7 +220,7 @@ class Resumed(NamedTuple):
 
 
 def resume(path: str, suite: Suite) -> Resumed:
-    sheet = opened_or_none(path, suite.path, suite)
+    sheet = opened_or_none(path, suite)
     if sheet is None:
         return Resumed(None, "no run of it was cut off, so it begins")
     try:
@@ -319,7 +243,7 @@ def notes_in(sheet: Worksheet) -> List[Dict[str, object]]:
 
 def found_in(sheet: Worksheet, suite: Suite, notes: List[Dict[str, object]]) -> Kept:
     if notes[0].get("suite") != suite.digest:
-        raise Trouble("the code of the suite isn't that of the run that was broken off: begin again, without --resume")
+        raise Trouble("the code of the suite isn't that of the run that was cut off: begin again, without --resume")
     kept = Kept(sheet, suite, [], {}, {})
     cells = {name: [cell for cell in sheet.cells if cell.session == name] for name in suite.sessions}
     for at, case in enumerate(suite.cases):
@@ -337,7 +261,7 @@ def found_in(sheet: Worksheet, suite: Suite, notes: List[Dict[str, object]]) -> 
         for name, own in (("got", kept.shown(at).text), ("errors", kept.shown(at).errors), ("said", "")):
             count = note.setdefault(name, own)
             if isinstance(count, int):
-                # Those of a run that was broken off between two of them stand in front.
+                # Those of a run that was cut off between two of them stand in front.
                 note[name] = "".join(parts[at, name][-count:])
         kept.results[at] = Result(**note)  # type: ignore[arg-type]
     for left in cells.values():
@@ -346,9 +270,9 @@ def found_in(sheet: Worksheet, suite: Suite, notes: List[Dict[str, object]]) -> 
     return kept
 
 
-def last_failed(path: str, of: str) -> Optional[List[str]]:
+def last_failed(path: str) -> Optional[List[str]]:
     """The digests of the cases that weren't passed in the last run. None where what the tool sets up for them went wrong, so that none was run."""
-    sheet = opened_or_none(path, of)
+    sheet = opened_or_none(path)
     if sheet is None:
         return []
     with sheet:
@@ -370,7 +294,7 @@ def trace_of(path: str) -> Trace:
     return tuple((one.st_ino, one.st_size, one.st_mtime_ns) for one in found)
 
 
-def finish(path: str, of: str, trace: Trace, is_ok: bool) -> None:
+def finish(path: str, trace: Trace, is_ok: bool) -> None:
     """The run of a suite came to its end, and is reported: its worksheet is left for `--rerun failed` alone, where a case failed. One that another
     run has taken meanwhile is left alone."""
     if not trace or trace_of(path) != trace:
@@ -378,5 +302,5 @@ def finish(path: str, of: str, trace: Trace, is_ok: bool) -> None:
     if is_ok:
         remove(path)
         return
-    with opened(path, of) as sheet:
+    with opened(path) as sheet:
         sheet.new(NOTES, json.dumps({ENDED: True}))

@@ -21,12 +21,12 @@ from . import reports
 from .accepting import accept
 from .cases import Suite
 from .choosing import chooser, why_none
-from .kept import PASSED
 from .marks import seconds
-from .reports import FORMATS, Reported, reported_of
+from .reports import FORMATS, Reported, SuiteTrouble, reported_of
 from .running import Plan, run
 from .telling import Teller, cut, standard
 from .readers import as_text, read_other
+from .results import PASSED
 from .text import Text, looks_like_a_suite, names_sessions
 
 ABOUT = "Runs test suites that are texts: evaluates the code in their fences, and compares what comes with the answers after them."
@@ -40,10 +40,11 @@ What came is kept in the worksheet SUITE.run while the suite runs, so --resume g
 wanted it is removed at the end, else --rerun failed reads it.
 In the interpreters TMHOST_SUITE_FOLDER is the folder of the suite.
 The program is the one that TMHOST names, tmhost on PATH, or the one that was built or installed with this.
-The status is 0 where all is as wanted, 1 where it isn't, and 2 where the words are refused.
+The status is 0 where all is as wanted, 1 where it isn't, 2 where the words are refused, and 130 where control-C ended it.
 """
 INTERRUPTED = 130
 MARKDOWN = ".md"
+OF_CHECK = ("tap", "junit", "json")  # reports that `tmhost check` has, too
 
 
 def shard(word: str) -> Tuple[int, int]:
@@ -81,11 +82,14 @@ def arguments(words: List[str]) -> argparse.Namespace:
     parser.add_argument("--convert", action="store_true", help="run nothing, and write the text form of a suite of another form")
     for format in FORMATS:
         parser.add_argument(f"--{format}", metavar="FILE", help=f"write a report in the form of {format} (-: standard output)")
+    parser.add_argument("--format", choices=OF_CHECK, help="write this report to standard output, and what is for people to standard error, as of tmhost check")
     given = parser.parse_args(words)
     if given.interactive and not given.accept:
         parser.error("--interactive is for --accept")
     if given.resume and given.rerun:
         parser.error("--resume goes on with a run, and --rerun begins one")
+    if given.format and "-" in [getattr(given, name) for name in FORMATS]:
+        parser.error("--format has standard output for itself: name a file for the other report")
     return given
 
 
@@ -154,13 +158,14 @@ class Runner:
 
     def __init__(self, given: argparse.Namespace, teller: Teller) -> None:
         self.given, self.teller = given, teller
-        self.slots, self.ended, self.is_broken_off = threading.Semaphore(given.jobs), threading.Event(), threading.Event()
+        self.slots, self.ended, self.is_cut_off = threading.Semaphore(given.jobs), threading.Event(), threading.Event()
         self.sheets: List[Worksheet] = []  # those of suites that have begun
         self.accepted: List[str] = []  # what is said of texts that were changed
         self.ran: List[Ran] = []
         self.replayed: List[int] = []  # of each suite how many cases were evaluated only for those after them
         self.chosen = 0  # how many cases were to be run
-        self.troubles: List[reports.Trouble] = []  # why suites weren't run to their end; the others are
+        self.troubles: List[SuiteTrouble] = []  # why suites weren't run to their end; the others are
+        self.counting = threading.Lock()  # of the threads of suites
         self.seed = str(random.randrange(10**6)) if given.random == "new" else given.random
 
     def run(self) -> bool:
@@ -178,13 +183,7 @@ class Runner:
         if self.given.random:
             self.teller.say(f"in the order of --random {self.seed}")
         began = time.monotonic()
-        with ThreadPoolExecutor(max(1, min(len(suites), self.given.jobs))) as pool:
-            try:
-                reported = [one for found in pool.map(lambda pair: self._run_one(*pair), suites) for one in found]
-            except BaseException:
-                self._break_off()
-                raise
-        self.teller.end_progress()
+        reported = self._run_all(suites)
         self._tell(reported, time.monotonic() - began)
         self._write_reports(reported)
         self._finish()
@@ -194,6 +193,27 @@ class Runner:
         if not self.chosen and parts == 1 and (self.given.only or self.given.tags):
             raise Trouble(why_none(self.given, [suite for suite, _ in suites]))
         return not self.troubles and all(one.verdict in PASSED or one.verdict == "out" for one in reported)
+
+    def _run_all(self, suites: List[Read]) -> List[Reported]:
+        """Runs suites side by side. What came of them is accepted in this thread alone, one suite after another. Where that is asked, it is when all have run:
+        so one question stands at a time, and nothing else is shown below it."""
+        ran: List[Tuple[Read, List[Reported]]] = []
+        with ThreadPoolExecutor(max(1, min(len(suites), self.given.jobs))) as pool:
+            try:
+                for pair, found in zip(suites, pool.map(lambda pair: self._run_one(*pair), suites)):
+                    if found is None:
+                        continue
+                    ran.append((pair, found))
+                    if not self.given.interactive:
+                        self._accept(pair, found)
+            except BaseException:
+                self._cut_off()
+                raise
+        self.teller.end_progress()
+        if self.given.interactive:
+            for pair, found in ran:
+                self._accept(pair, found)
+        return [one for _, found in ran for one in found]
 
     def _paths(self) -> List[str]:
         """The suites, in the order in which they are named. One that is named, and is in a folder that is, too, is one."""
@@ -212,7 +232,7 @@ class Runner:
         """All is reported: there is nothing to go on with, and what a suite keeps is for `--rerun failed` alone."""
         for ran in self.ran:
             with self._reported_of(ran.path):
-                worksheets.finish(ran.sheet, ran.path, ran.trace, ran.is_ok)
+                worksheets.finish(ran.sheet, ran.trace, ran.is_ok)
 
     def _refuse_places(self, paths: List[str]) -> None:
         """A report that can't be written where it is wanted is refused before anything is evaluated, which may take hours."""
@@ -223,9 +243,9 @@ class Runner:
             if path is not None and path != "-":
                 refuse_target(f"--{name}", path, kept)
 
-    def _break_off(self) -> None:
+    def _cut_off(self) -> None:
         """Ends what runs, at once: what is done stands in the worksheets, and another run goes on from there."""
-        self.is_broken_off.set()
+        self.is_cut_off.set()
         self.ended.set()
         for sheet in self.sheets:
             sheet.close(0)
@@ -235,10 +255,10 @@ class Runner:
             return read(path, self.given.words)
         return None
 
-    def _run_one(self, suite: Suite, text: Optional[Text]) -> List[Reported]:
+    def _run_one(self, suite: Suite, text: Optional[Text]) -> Optional[List[Reported]]:
         with self._reported_of(suite.path):
             return self._run_suite(suite, text)
-        return []
+        return None
 
     @contextlib.contextmanager
     def _reported_of(self, path: str) -> Iterator[None]:
@@ -250,18 +270,19 @@ class Runner:
             needs = "--resume" if self.given.resume else "--rerun failed" if self.given.rerun else None
             if isinstance(trouble, Died):
                 why = worksheets.why_ended(trouble, worksheets.sheet_path(path, self.given.runs), needs)
-            if not self.is_broken_off.is_set():
-                self.troubles.append(reports.Trouble(path, why or str(trouble)))
+            if not self.is_cut_off.is_set():
+                self.troubles.append(SuiteTrouble(path, why or str(trouble)))
 
     def _run_suite(self, suite: Suite, text: Optional[Text]) -> List[Reported]:
         path = worksheets.sheet_path(suite.path, self.given.runs)
-        if self.is_broken_off.is_set():
+        if self.is_cut_off.is_set():
             return []
         if text is not None and not suite.cases:
             raise Trouble("there is no case: no fence is of a session that the front matter names")
         chosen = chooser(self.given, suite.path)
         count = sum(chosen(at, case) for at, case in enumerate(suite.cases))
-        self.chosen += count
+        with self.counting:
+            self.chosen += count
         if self.given.rerun and not count:
             self.teller.say(f"{suite.path}: no case of it failed in a run that is kept, so none is run")
         found = worksheets.resume(path, suite) if self.given.resume else None
@@ -270,7 +291,7 @@ class Runner:
         kept = found.kept if found is not None and found.kept is not None else worksheets.begin(path, suite, self.teller.say)
         with kept.sheet:
             self.sheets.append(kept.sheet)
-            plan = Plan(chosen, self.given.seconds, self.slots, self.ended, self.is_broken_off, self.given.fail_fast, self.seed)
+            plan = Plan(chosen, self.given.seconds, self.slots, self.ended, self.is_cut_off, self.given.fail_fast, self.seed)
             self.replayed.append(run(kept, plan, lambda at: self.teller.one_more()))
         reported = reported_of(suite, kept.results, chosen)
         broken = list(reports.broken_in(suite, kept.results))
@@ -280,15 +301,17 @@ class Runner:
         if not left:
             is_ok = not broken and all(one.verdict in PASSED or one.verdict == "out" for one in reported)
             self.ran.append(Ran(suite.path, path, worksheets.trace_of(path), is_ok))
-        if self.given.accept:
-            with self._reported_of(suite.path):
-                self.accepted += accept(text, reported, self._is_wanted if self.given.interactive else None)
         return reported
 
     # ---- what is accepted
 
+    def _accept(self, read: Read, reported: List[Reported]) -> None:
+        suite, text = read
+        if self.given.accept:
+            with self._reported_of(suite.path):
+                self.accepted += accept(text, reported, self._is_wanted if self.given.interactive else None)
+
     def _is_wanted(self, reported: Reported) -> bool:
-        self.teller.end_progress()
         self.teller.tell(reported)
         self.teller.out.write("accept this? [y/N] ")
         self.teller.out.flush()
@@ -316,12 +339,12 @@ class Runner:
     def _write_reports(self, reported: List[Reported]) -> None:
         for name, write in FORMATS.items():
             path: Optional[str] = getattr(self.given, name)
-            if path is None:
+            if path is None and name != self.given.format:
                 continue
             text = "".join(line + "\n" for line in write(reported, self.troubles))
-            if path == "-":
+            if path == "-" or name == self.given.format:
                 sys.stdout.write(text)
-            else:
+            if path is not None and path != "-":
                 with open(path, "w", encoding="utf-8", newline="") as file:
                     file.write(text)
 
@@ -335,12 +358,12 @@ def main(words: List[str]) -> int:
                 sys.stderr.write("".join(f"tmhost-suite: {line}\n" for line in said))
             return 0
         show_building()
-        return 0 if Runner(given, standard()).run() else 1
+        return 0 if Runner(given, standard(given.format is None)).run() else 1
     except (Trouble, TmhostError) as trouble:
         print(f"tmhost-suite: {trouble}", file=sys.stderr)
     except OSError as error:
         print(f"tmhost-suite: {error.strerror or error}" + (f": {error.filename}" if error.filename else ""), file=sys.stderr)
     except KeyboardInterrupt:
-        print("tmhost-suite: broken off; --resume goes on where it was", file=sys.stderr)
+        print("tmhost-suite: cut off; --resume goes on where it was", file=sys.stderr)
         return INTERRUPTED
     return 1

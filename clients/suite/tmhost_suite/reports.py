@@ -10,7 +10,7 @@ from xml.sax.saxutils import escape, quoteattr
 
 from .cases import Case, Suite
 from .diffs import diff
-from .kept import BROKEN, WRONG, Result
+from .results import BROKEN, WITHOUT_ANSWER, WRONG, Result
 from .rules import wrong_patterns
 
 NO_XML = re.compile("[^\t\n\r -\ud7ff\ue000-\ufffd\U00010000-\U0010ffff]")
@@ -49,6 +49,11 @@ class Reported:
         return self.result.end if self.result else ""
 
     @property
+    def over(self) -> float:
+        """The seconds that it had, where its time was over; 0 where it wasn't."""
+        return self.result.over if self.result else 0.0
+
+    @property
     def said(self) -> str:
         """The last lines that its interpreter had written before it ended, as one."""
         return self.result.said if self.result else ""
@@ -80,9 +85,11 @@ class Reported:
         return last[2:3].lower() + last[3:]
 
     @property
-    def ended_as(self) -> str:
-        """In a line how its interpreter ended, and what it had written last."""
-        return f"its interpreter ended ({self.end})" + (f": {self.said}" if self.said else "")
+    def why_none(self) -> str:
+        """In a line why no answer came: how its interpreter ended, and what it had written last, or that its time was over."""
+        if self.over:
+            return f"its time was over ({self.over:g} s)"
+        return f"its interpreter ended ({self.end})" + (f": {self.said}" if self.said else "") if self.end else ""
 
     @property
     def got(self) -> str:
@@ -134,14 +141,14 @@ class Reported:
         return diff(wanted, came, self.suite.rules_of(self.case), what)
 
 
-class Trouble(NamedTuple):
+class SuiteTrouble(NamedTuple):
     """Why a suite wasn't run to its end, or what came of it wasn't accepted."""
 
     path: str
     why: str
 
 
-def paths_in(all_reported: List[Reported], troubles: List[Trouble]) -> List[str]:
+def paths_in(all_reported: List[Reported], troubles: List[SuiteTrouble]) -> List[str]:
     return list(dict.fromkeys([*(reported.suite.path for reported in all_reported), *(trouble.path for trouble in troubles)]))
 
 
@@ -160,26 +167,26 @@ def reported_of(suite: Suite, results: "dict[int, Result]", is_chosen: Callable[
     return reported
 
 
-def broken_in(suite: Suite, results: "dict[int, Result]") -> Iterator[Trouble]:
+def broken_in(suite: Suite, results: "dict[int, Result]") -> Iterator[SuiteTrouble]:
     """What went wrong of that which the tool does around the cases of another form."""
     for at, case in enumerate(suite.cases):
         if case.is_own and at in results and results[at].verdict == BROKEN:
             what = "taking it down" if case.marks.is_teardown else "setting it up"
             left = "" if case.marks.is_teardown else ", so none of its cases was run"
-            yield Trouble(suite.path, f"{what} went wrong{left}: {printable(results[at].got)}")
+            yield SuiteTrouble(suite.path, f"{what} went wrong{left}: {printable(results[at].got)}")
 
 
 def tap_text(text: str) -> str:
     return re.sub(r"[\\#]", r"\\\g<0>", printable(text.replace("\n", " ")))
 
 
-def tap_points(shown: List[Reported], troubles: List[Trouble]) -> Iterator[str]:
+def tap_points(shown: List[Reported], troubles: List[SuiteTrouble]) -> Iterator[str]:
     """The plan, and a point for each case, and for each suite that wasn't run to its end."""
     yield f"1..{len(shown) + len(troubles)}"
     for number, reported in enumerate(shown, 1):
         remark = printable(reported.remark)
         directive = {"skip": f" # SKIP {remark}", "xfail": f" # TODO {remark}", "xpass": f" # TODO {remark}"}.get(reported.verdict, "")
-        yield f"{'not ok' if reported.verdict in ('differs', 'new', 'ended', 'xfail') else 'ok'} {number} - {tap_text(reported.name)}{directive.rstrip()}"
+        yield f"{'not ok' if reported.verdict in ('differs', 'new', *WITHOUT_ANSWER, 'xfail') else 'ok'} {number} - {tap_text(reported.name)}{directive.rstrip()}"
         if reported.result:
             yield "  ---"
             yield f"  verdict: {reported.verdict}"
@@ -187,6 +194,8 @@ def tap_points(shown: List[Reported], troubles: List[Trouble]) -> Iterator[str]:
             if reported.end:
                 yield f"  end: {json.dumps(reported.end)}"
                 yield f"  said: {json.dumps(reported.said)}"
+            if reported.over:
+                yield f"  over: {reported.over:g}"
             if reported.diff:
                 yield "  diff: |"  # whose first line is `--- wanted`: `prove` knows no indentation in numbers
                 yield from ("    " + printable(line) for line in reported.diff)
@@ -199,13 +208,13 @@ def in_points(all_reported: List[Reported]) -> List[Reported]:
     return [reported for reported in all_reported if reported.verdict not in ("out", "setup")]
 
 
-def tap(all_reported: List[Reported], troubles: List[Trouble]) -> Iterator[str]:
+def tap(all_reported: List[Reported], troubles: List[SuiteTrouble]) -> Iterator[str]:
     """TAP (testanything.org) of version 13, which Perl's `prove` reads; it refuses version 14."""
     yield "TAP version 13"
     yield from tap_points(in_points(all_reported), troubles)
 
 
-def tap14(all_reported: List[Reported], troubles: List[Trouble]) -> Iterator[str]:
+def tap14(all_reported: List[Reported], troubles: List[SuiteTrouble]) -> Iterator[str]:
     """The same of version 14, in which each suite is a subtest."""
     yield "TAP version 14"
     paths = paths_in(all_reported, troubles)
@@ -226,7 +235,7 @@ def xml_attribute(text: str) -> str:
     return quoteattr(NO_XML.sub("\N{REPLACEMENT CHARACTER}", text))
 
 
-def junit(all_reported: List[Reported], troubles: List[Trouble]) -> Iterator[str]:
+def junit(all_reported: List[Reported], troubles: List[SuiteTrouble]) -> Iterator[str]:
     """One `testsuite` for each text, one `testcase` for each case, and for each text that wasn't run to its end."""
     yield '<?xml version="1.0" encoding="UTF-8"?>'
     yield "<testsuites>"
@@ -244,16 +253,16 @@ def lasting_names(own: List[Reported]) -> Iterator[str]:
 
 
 def junit_suite(path: str, own: List[Reported], troubles: List[str]) -> Iterator[str]:
-    ended = sum(reported.verdict == "ended" for reported in own)
-    wrong, skipped = sum(reported.is_wrong for reported in own) - ended, sum(reported.verdict in ("skip", "xfail") for reported in own)
+    none = sum(reported.verdict in WITHOUT_ANSWER for reported in own)
+    wrong, skipped = sum(reported.is_wrong for reported in own) - none, sum(reported.verdict in ("skip", "xfail") for reported in own)
     seconds = sum(reported.seconds for reported in own)
-    counts = f'tests="{len(own) + len(troubles)}" failures="{wrong}" errors="{len(troubles) + ended}" skipped="{skipped}" time="{seconds:.3f}"'
+    counts = f'tests="{len(own) + len(troubles)}" failures="{wrong}" errors="{len(troubles) + none}" skipped="{skipped}" time="{seconds:.3f}"'
     yield f"<testsuite name={xml_attribute(path)} {counts}>"
     place = f"classname={xml_attribute(path)} file={xml_attribute(path_in_repository(path))}"
     for reported, name in zip(own, lasting_names(own)):
         head = f'<testcase {place} line="{reported.case.line}" name={xml_attribute(name)} time="{reported.seconds:.3f}"'
-        if reported.verdict == "ended":
-            yield f'{head}><error message={xml_attribute(reported.ended_as)} type="ended">{xml_text(chr(10).join(reported.diff))}</error></testcase>'
+        if reported.verdict in WITHOUT_ANSWER:
+            yield f'{head}><error message={xml_attribute(reported.why_none)} type="{reported.verdict}">{xml_text(chr(10).join(reported.diff))}</error></testcase>'
         elif reported.is_wrong:
             kind = "error" if reported.is_error else "answer"
             yield f'{head}><failure message={xml_attribute(reported.verdict)} type="{kind}">{xml_text(chr(10).join(reported.diff))}</failure></testcase>'
@@ -266,7 +275,7 @@ def junit_suite(path: str, own: List[Reported], troubles: List[str]) -> Iterator
     yield "</testsuite>"
 
 
-def json_lines(all_reported: List[Reported], troubles: List[Trouble]) -> Iterator[str]:
+def json_lines(all_reported: List[Reported], troubles: List[SuiteTrouble]) -> Iterator[str]:
     """One object for each case, and for each suite that wasn't run to its end (`clients/suite/report.schema.json`)."""
     for reported in all_reported:
         if reported.verdict == "out":
@@ -289,6 +298,7 @@ def json_lines(all_reported: List[Reported], troubles: List[Trouble]) -> Iterato
             "startedAgain": reported.began_anew,
             "end": reported.end or None,
             "said": reported.said,
+            "over": reported.over or None,
             "endedBefore": reported.ended_before,
         }
         yield json.dumps(one, ensure_ascii=True)
@@ -312,11 +322,11 @@ def github_member(text: str) -> str:
     return github_text(text).replace(":", "%3A").replace(",", "%2C")
 
 
-def github(all_reported: List[Reported], troubles: List[Trouble]) -> Iterator[str]:
+def github(all_reported: List[Reported], troubles: List[SuiteTrouble]) -> Iterator[str]:
     """Workflow commands, which GitHub shows at the lines of the text."""
     for reported in all_reported:
         if reported.is_wrong:
-            lines = [*([reported.ended_as] if reported.end else []), *reported.diff]
+            lines = [*([reported.why_none] if reported.why_none else []), *reported.diff]
             path, title = github_member(path_in_repository(reported.suite.path)), github_member(f"{reported.verdict}: {reported.case.title}")
             yield f"::error file={path},line={reported.case.line},title={title}::{github_text(chr(10).join(lines) or reported.verdict)}"
     for trouble in troubles:
@@ -333,7 +343,7 @@ def gitlab_issue(path: str, line: int, description: str, mark: str) -> Dict[str,
     }
 
 
-def gitlab(all_reported: List[Reported], troubles: List[Trouble]) -> Iterator[str]:
+def gitlab(all_reported: List[Reported], troubles: List[SuiteTrouble]) -> Iterator[str]:
     """A report on the quality of code, which GitLab shows at the lines of the text."""
     issues = [gitlab_issue(reported.suite.path, reported.case.line, f"{reported.verdict}: {reported.case.title}", reported.case.digest) for reported in all_reported if reported.is_wrong]
     issues += [gitlab_issue(trouble.path, 1, trouble.why, "trouble") for trouble in troubles]

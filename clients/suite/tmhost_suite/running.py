@@ -12,7 +12,8 @@ from tmhost import Answer, Cell, Lost, Refused, TimedOut
 
 from .agenda import agenda_of, is_fixed
 from .cases import Case, Suite
-from .kept import BROKEN, WRONG, Kept, Result, joined
+from .kept import Kept, joined
+from .results import BROKEN, WRONG, Result
 from .shown import Shown, shown_of
 
 GRACE = 2.0  # seconds for an interpreter that was interrupted to say so
@@ -21,14 +22,14 @@ GRACE = 2.0  # seconds for an interpreter that was interrupted to say so
 @dataclasses.dataclass
 class Plan:
     """What is run and how: `chosen` says which cases, `seconds` how long one may take, `slots` how many run at a time over all files, `ended` that no
-    more are begun, `is_broken_off` that what comes now isn't what a case came to, `fails_fast` that none is begun after a failure, and `seed` in which
+    more are begun, `is_cut_off` that what comes now isn't what a case came to, `fails_fast` that none is begun after a failure, and `seed` in which
     order they come where it is drawn."""
 
     chosen: Callable[[int, Case], bool]
     seconds: float
     slots: threading.Semaphore
     ended: threading.Event
-    is_broken_off: threading.Event
+    is_cut_off: threading.Event
     fails_fast: bool = False
     seed: Optional[int] = None
 
@@ -39,9 +40,9 @@ def verdict_of(case: Case, result: Result, is_good: bool) -> str:
     if is_skipped(case, result.got):
         return "skip"
     is_free = case.wanted is None and case.errors is None
+    wrong = "ended" if result.end else "over" if result.over else "new" if is_free else "differs"
     if not result.has_started and not is_good:
-        # A wrong answer is what may be wanted, and this is none: the case wasn't tried.
-        return "ended" if result.end else "new" if is_free else "differs"
+        return wrong  # a wrong answer is what may be wanted, and this is none: the case wasn't tried
     if case.marks.xfail is not None:
         return "xpass" if is_good else "xfail"
     if is_good:
@@ -50,7 +51,7 @@ def verdict_of(case: Case, result: Result, is_good: bool) -> str:
         return "xfail"
     if is_free and (case.marks.is_teardown or case.marks.is_setup and not result.is_lost):
         return "setup"  # what takes down may end its interpreter
-    return "ended" if result.end else "new" if is_free else "differs"
+    return wrong
 
 
 def is_skipped(case: Case, got: str) -> bool:
@@ -64,7 +65,7 @@ def is_good(suite: Suite, case: Case, result: Result) -> bool:
 
 
 def judge_again(kept: Kept) -> None:
-    """What came before a run was broken off is compared with what is wanted now."""
+    """What came before a run was cut off is compared with what is wanted now."""
     for at, result in kept.results.items():
         case = kept.suite.cases[at]
         result.verdict = verdict_of(case, result, is_good(kept.suite, case, result))
@@ -132,7 +133,7 @@ class Chain:
 
     def _judge(self, at: int, case: Case) -> None:
         tries, good, result = 0, False, Result("", 0.0)
-        while not good and tries <= case.marks.flaky and not self.plan.is_broken_off.is_set():
+        while not good and tries <= case.marks.flaky and not self.plan.is_cut_off.is_set():
             tries += 1
             result = self._evaluate(at, case)
             if self._leave_bare():
@@ -140,7 +141,7 @@ class Chain:
             result.after_end = None if self.suite.is_independent(case) else self.ended_at
             self._heed_end(at)
             good = is_good(self.suite, case, result)
-        if self.plan.is_broken_off.is_set():
+        if self.plan.is_cut_off.is_set():
             return
         result.tries = tries
         result.verdict = verdict_of(case, result, good)
@@ -183,7 +184,7 @@ class Chain:
         until = began + (case.marks.timeout or self.suite.timeout or self.plan.seconds)
         got: List[Shown] = []
         lost: List[Shown] = []
-        is_error, has_started, end, said, rules = False, True, "", "", self.suite.rules_of(case)
+        is_error, has_started, end, said, had, rules = False, True, "", "", 0.0, self.suite.rules_of(case)
         try:
             for cell in self.kept.cells[at]:
                 answer = self._answer(cell, until)
@@ -193,15 +194,15 @@ class Chain:
             lost.append(Shown(f"? {ended.reason}"))
             end, (has_started, said) = ended.reason, self.kept.losses.of(cell)
         except Over as over:
-            has_started = over.has_started
-            lost.append(Shown(f"? over {until - began:g} s"))
+            has_started, had = over.has_started, until - began
+            lost.append(Shown(f"? over {had:g} s"))
         except Refused as refused:
             lost.append(Shown(f"? {refused}"))
         if at in self.kept.misfits:
             lost.append(Shown(f"? {self.kept.misfits[at]}"))
         shown, taken = joined(got + lost), time.monotonic() - began
         result = Result(shown.text, taken, began_anew=began_anew, is_error=is_error, is_lost=bool(lost), errors=shown.errors, has_started=has_started)
-        return dataclasses.replace(result, end=end, said=said)
+        return dataclasses.replace(result, end=end, said=said, over=had)
 
     def _answer(self, cell: Cell, until: float) -> Answer:
         """The answer of a cell. Raises Lost, where its interpreter ended, Over, where the time is, and Refused."""
@@ -246,7 +247,7 @@ class Chain:
         self.is_fresh, self.has_run = False, True
 
     def _replay_past(self, past: List[int], needed: List[int]) -> None:
-        """Brings a new interpreter to where that of the run that was broken off stood: what set up before the last case in which an
+        """Brings a new interpreter to where that of the run that was cut off stood: what set up before the last case in which an
         interpreter ended, and all after that; of both what is needed."""
         cut = max((place for place, at in enumerate(past) if self._was_lost(at)), default=-1)
         self.has_run, self.is_fresh, self.ended_at = True, cut + 1 == len(past), past[cut] if cut >= 0 else None

@@ -7,10 +7,11 @@ from tmhost.starting import doubt, why_it_ends, without_adapter
 
 from .cases import Suite
 from .reports import Reported, printable
+from .results import WITHOUT_ANSWER
 
 COLOURS = {"-": "31", "+": "32", "@": "36"}
 BOLD = "1"
-ORDER = ("ok", "flaky", "xfail", "skip", "differs", "new", "xpass", "ended")
+ORDER = ("ok", "flaky", "xfail", "skip", "differs", "new", "xpass", *WITHOUT_ANSWER)
 SILENT = ("? Ended", "? StartRefused", "? Stalled", "? over ")  # how what came of a case without an answer begins
 CLEAR = "\r\x1b[K"
 LONGEST, MOST = 500, 200  # characters of a line, and lines of a text, that a person is shown
@@ -148,5 +149,6 @@ def applied_in(all_reported: List[Reported]) -> Set[int]:
     return applied
 
 
-def standard() -> Teller:
-    return Teller(sys.stdout, sys.stderr)
+def standard(has_output: bool = True) -> Teller:
+    """One of the program's own streams. It has standard output, or a report has."""
+    return Teller(sys.stdout if has_output else sys.stderr, sys.stderr)
