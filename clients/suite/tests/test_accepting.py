@@ -2,12 +2,13 @@
 import os
 import re
 import shutil
+import signal
 import stat
 import subprocess
 import threading
 import unittest
 
-from .support import Case, case, environment, words
+from .support import Case, case, environment, heed_interrupts, words
 
 CALL = re.compile(r"^(\d+) +(fsync|rename|openat)\w*\((.*)", re.MULTILINE)
 
@@ -73,3 +74,36 @@ class Written(Case):
         own = [(name, rest) for thread, name, rest in calls[at:] if thread == calls[at][0] and (name != "openat" or new in rest)][:4]
         self.assertEqual([name for name, _ in own], ["openat", "fsync", "rename", "fsync"])
         self.assertIn(f'{new}, "{self.path}"', own[2][1])
+
+
+class Asked(Case):
+    def test_one_question_at_a_time(self) -> None:
+        """Of several suites, which run side by side: each answer is for the question in front of it, in the order of the suites."""
+        paths = [self.place(f"{number}.md") for number in range(4)]
+        for number, path in enumerate(paths):
+            self.write(case("sleep 0.2" if number == 0 else "quiet", None, "a {may_fail}"), case(f"say {number}", "x"), case(f"say 1{number}", "x"), path=path)
+        ran = self.run_suite(*paths, "--accept", "--interactive", "--jobs", "4", given="y\nn\n" * 4)
+        asked, _, rest = ran.output.rpartition("accept this? [y/N] ")
+        questions = [f"differs: {path}:{line} say {digit}{number}\n  @@ -1 +1 @@\n  -x\n  +{digit}{number}\n" for number, path in enumerate(paths) for line, digit in ((13, ""), (23, "1"))]
+        self.assertEqual(asked.split("accept this? [y/N] "), questions)
+        self.assertEqual(rest.count("differs: "), 8)
+        self.assertEqual([line for line in rest.splitlines() if line.endswith("accepted")], [f"{path}: 1 accepted" for path in paths])
+        for number, path in enumerate(paths):
+            self.assertEqual([f"answer\n{number}\n" in self.read(path), f"answer\n1{number}\n" in self.read(path)], [True, False])
+
+    def test_an_interrupt_at_a_question(self) -> None:
+        """It ends the run at once, and what was evaluated is asked again."""
+        self.write(case("say 1", "x"))
+        run = subprocess.Popen(words(self.path, "--accept", "--interactive"), stdin=subprocess.PIPE, stdout=subprocess.PIPE, stderr=subprocess.PIPE, env=environment(), preexec_fn=heed_interrupts)
+        assert run.stdin and run.stdout and run.stderr
+        asked = b""
+        while not asked.endswith(b"accept this? [y/N] "):
+            asked += run.stdout.read(1)
+        run.send_signal(signal.SIGINT)
+        self.assertEqual((run.wait(30), run.stderr.read()), (130, b"tmhost-suite: cut off; --resume goes on where it was\n"))
+        for stream in (run.stdin, run.stdout, run.stderr):
+            stream.close()
+        ran = self.run_suite(self.path, "--accept", "--interactive", "--resume", given="y\n")
+        self.assertIn("goes on after 1 of 1 cases\n", ran.output)
+        self.assertIn(f"{self.path}: 1 accepted\n", ran.output)
+        self.assertEqual(self.log("a"), ["say 1"])

@@ -12,8 +12,8 @@ from .support import Case, case
 from .values import expected
 from tmhost_suite.cases import Case as SuiteCase
 from tmhost_suite.forms import PYTHON
-from tmhost_suite.kept import Result
 from tmhost_suite.readers import as_text, read_notebook
+from tmhost_suite.results import Result
 from tmhost_suite.running import is_good, verdict_of
 from tmhost_suite.text import Text
 

@@ -8,7 +8,7 @@ import unittest
 import xml.etree.ElementTree
 from typing import Any, List
 
-from .support import Case, case
+from .support import Case, case, without_seconds
 from .test_running import SCHEMA
 
 BROKEN = {
@@ -46,6 +46,17 @@ class Troubles(Case):
         self.assertEqual([json.loads(line)["file"] for line in self.read(lines).splitlines()], [self.path, *self.broken])
         self.assertEqual(ran.output.count("::error file="), len(self.broken))
         self.assertEqual(self.read(self.place("tap")).count("\nnot ok "), len(self.broken))
+
+    def test_the_word_of_tmhost_check(self) -> None:
+        """The report has standard output for itself, so that a program reads it there."""
+        self.write(case("say 1", "1"), case("say 2", "3"))
+        for format in ("tap", "junit", "json"):
+            ran = self.run_suite(self.path, "--format", format, f"--{format}", self.place("report"))
+            self.assertEqual((ran.status, ran.output), (1, self.read(self.place("report"))))
+            self.assertEqual(without_seconds(ran.errors), f"differs: {self.path}:17 say 2\n  @@ -1 +1 @@\n  -3\n  +2\n1 ok, 1 differs\n")
+        ran = self.run_suite(self.path, "--format", "tap", "--json", "-")
+        self.assertEqual(ran.status, 2)
+        self.assertIn("error: --format has standard output for itself: name a file for the other report\n", ran.errors)
 
     def test_a_report_without_its_place(self) -> None:
         """That is said before anything is evaluated, so no worksheet of a run is there."""

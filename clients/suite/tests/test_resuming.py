@@ -121,7 +121,7 @@ class Resuming(Case):
         """What is noted of a case has the names that it always had."""
         self.write(case("say 1", "1"), self.waiting())
         self.cut_off(1)
-        with mock.patch.dict(os.environ, environment()), opened(self.path + ".run", self.path) as sheet:
+        with mock.patch.dict(os.environ, environment()), opened(self.path + ".run") as sheet:
             note = json.loads(sheet.cells[-1].input)
         self.assertEqual(set(note) - {"digest"}, {"case", "seconds", "tries", "began_anew", "is_error", "is_lost", "verdict"})
 
@@ -138,7 +138,7 @@ class Resuming(Case):
         run.send_signal(signal.SIGINT)
         errors = run.communicate()[1]
         self.assertLess(time.monotonic() - began, 10)
-        self.assertEqual((run.returncode, errors), (130, "tmhost-suite: broken off; --resume goes on where it was\n"))
+        self.assertEqual((run.returncode, errors), (130, "tmhost-suite: cut off; --resume goes on where it was\n"))
         self.assertEqual(self.log("b"), [])
         left = subprocess.run(["pgrep", "-f", self.place("a.log")], capture_output=True, text=True).stdout
         self.assertEqual(left, "")
@@ -159,7 +159,7 @@ class Resuming(Case):
         self.write(case("say 2", "2"), self.waiting())
         ran = self.run_suite(self.path, "--resume")
         self.assertEqual(ran.status, 1)
-        self.assertIn("isn't that of the run that was broken off", ran.errors)
+        self.assertIn("isn't that of the run that was cut off", ran.errors)
 
     def test_a_run_that_goes_on_is_left_alone(self) -> None:
         self.write(case("sleep 30"))
@@ -170,7 +170,7 @@ class Resuming(Case):
                 time.sleep(0.05)
             ran = self.run_suite(self.path)
             self.assertEqual(ran.status, 1)
-            said = f"tmhost-suite: {self.path}: another tmhost-suite runs it; waiting\ntmhost-suite: {self.path}: {self.path}.run: fault 35 InUse: it is in use by another program; `fuser {self.path}.run` says which: wait for its end, or end it\n"
+            said = f"tmhost-suite: {self.path}.run: another program has it; waiting\ntmhost-suite: {self.path}: {self.path}.run: fault 35 InUse: it is in use by another program; `fuser {self.path}.run` says which: wait for its end, or end it\n"
             self.assertEqual(ran.errors, said)
         finally:
             os.killpg(run.pid, signal.SIGKILL)
@@ -185,7 +185,7 @@ class Resuming(Case):
         assert second.stderr
         said = second.stderr.readline()
         self.make_file("go")
-        self.assertEqual((said, second.communicate()[1]), (f"tmhost-suite: {self.path}: another tmhost-suite runs it; waiting\n", ""))
+        self.assertEqual((said, second.communicate()[1]), (f"tmhost-suite: {self.path}.run: another program has it; waiting\n", ""))
         self.assertEqual((first.wait(), second.returncode), (0, 0))
         self.assertFalse(os.path.exists(self.path + ".run"))
 

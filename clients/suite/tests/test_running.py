@@ -92,7 +92,7 @@ class Verdicts(Case):
         self.assertIn("no case of the session c has an answer: do its words start an interpreter here? ./nothing here\n", self.outcome.output)
         with open(self.path, "w", encoding="utf-8") as file:
             file.write(text.replace("[./nothing, here]", "[sh]").replace("---\n", "---\ntimeout: 0.5\n", 1))
-        self.assertEqual(self.verdicts(self.path), ["differs", "ok"])
+        self.assertEqual(self.verdicts(self.path), ["over", "ok"])
         self.assertIn("no case of the session c has an answer: sh by itself has no blocks for its answers: the words tmhost-sh start it with an adapter\n", self.outcome.output)
         self.assertTrue(self.outcome.output.startswith(f"{self.path}: the session c: sh by itself has no blocks for its answers: the words tmhost-sh start it with an adapter\n"))
         self.write(case("say x", "x"), more="folder: none\n")
@@ -110,7 +110,7 @@ class Verdicts(Case):
         for these, why in (("./nothing", "do its words start an interpreter here? ./nothing"), ("false", "false"), ("cat", "do its words start an interpreter here? cat")):
             self.of_words(these, case("x", "3", "c {xfail known} {timeout 1}"), case("x", "3", "c {may_fail} {timeout 1}"), case("x", None, "c {setup} {timeout 1}"), case("say x", "x"))
             found = self.objects(self.path)
-            verdicts = ["differs", "differs", "new"] if these == "cat" else ["ended"] * 3
+            verdicts = ["over" if these == "cat" else "ended"] * 3
             self.assertEqual([one["verdict"] for one in found], [*verdicts, "ok"], self.outcome.output)
             self.assertEqual(self.outcome.status, 1)
             self.assertEqual([one["remark"] for one in found][:1], ["known, its interpreter didn't start"])
