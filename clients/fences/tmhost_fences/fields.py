@@ -6,7 +6,7 @@ import re
 import sys
 from typing import Dict, Iterator, List, Optional, Sequence, Set, Tuple
 
-from . import r
+from . import r, sh
 
 LINE_END = "\u2028"  # stands in an input for the end of a line, since an input has none
 LONGEST_INPUT = 4095  # bytes
@@ -18,7 +18,9 @@ GOES_ON = re.compile(rf"[ \t)\]}}]|(?:{CLOSING})\b")
 GOES_ON_IN = {
     "lua": re.compile(rf"{GOES_ON.pattern}|until\b"),  # elsewhere, as in a shell, it begins a loop
     "R": re.compile(r"[ \t)\]}]|else\b"),  # the others are names
+    "sh": re.compile(r"[ \t)}]|(?:elif|else|do|done|then|fi|esac)(?=[ \t;&|<>)]|\Z)"),
 }
+SHELL, SHELLS = "sh", ("sh", "bash", "dash")
 DECORATOR = re.compile(r"@\w")
 # What has no brackets that count: texts, and remarks.
 TEXT = re.compile(r"""\"(?:\\.|[^\"\\])*\"|'[^']*'|(?:\A|(?<=\s))#\s.*""")
@@ -68,7 +70,20 @@ def group(at: int, lines: List[str]) -> Iterator[Group]:
 def language_in(words: Sequence[str]) -> str:
     """The language of which more is known here than of others, by the words of a session: that of an adapter, which has its name."""
     names = [os.path.basename(word).removeprefix("tmhost-") for word in words]
-    return next((name for name in names if name in TEXTS), "")
+    found = next((name for name in names if name in TEXTS), "")
+    return found or (SHELL if any(is_shell(words[at:]) for at in range(len(words))) else "")
+
+
+def is_shell(words: Sequence[str]) -> bool:
+    """Whether the first of these words is a shell's. One that is given a script evaluates that alone: which language the script's lines have isn't known."""
+    name = os.path.basename(words[0])
+    is_adapter = name.startswith("tmhost-")
+    return name.removeprefix("tmhost-") in SHELLS and (is_adapter or all(word.startswith("-") for word in words[1:]))
+
+
+def is_known(language: str) -> bool:
+    """Whether it is known what is a text in a language."""
+    return language in TEXTS or language == SHELL
 
 
 def left_of(found: "re.Match[str]") -> str:
@@ -115,12 +130,16 @@ def statements(lines: List[str], language: str) -> Dict[int, int]:
 
 def continued(lines: List[str], language: str) -> Dict[int, int]:
     """The line in which a line goes on by what stands at its end, by that one: of R as R reads it, else the next one after a backslash or an equals
-    sign."""
+    sign. In a shell that is seen to with its brackets."""
+    if language == SHELL:
+        return {}
     return r.continued(lines) if language == "R" else {at: at + 1 for at, line in enumerate(lines) if HOLDS.search(line)}
 
 
 def bared(lines: List[str], language: str) -> List[str]:
     """The lines without what has no brackets that count: texts and remarks."""
+    if language == SHELL:
+        return sh.bared(lines)
     return without_texts(lines, language) if language in TEXTS else [TEXT.sub("", line) for line in lines]
 
 
@@ -141,10 +160,11 @@ def remarks_within(lines: List[str], language: str) -> Set[int]:
 def holds(lines: List[str], language: str, most: int) -> Iterator[int]:
     """Of each line the last one that it holds: that which closes its brackets or ends its statement; that in which it goes on by its end; else
     itself. In a language whose texts aren't known a bracket may stand in one, so that these have at most so many characters."""
-    most = sys.maxsize if language in TEXTS else most
+    most = sys.maxsize if is_known(language) else most
     ends = list(itertools.accumulate((1 + len(line) for line in lines), initial=0))
-    bare = without_texts(lines, language) if language in TEXTS else lines
-    closed = closings(bared(lines, language))
+    without = bared(lines, language)
+    bare = without if is_known(language) else lines
+    closed = closings(without)
     ended, following = statements(bare, language), continued(bare, language)
     for at in range(len(lines)):
         last = max(closed.get(at, at), ended.get(at, at))

@@ -42,7 +42,11 @@ class AsyncEvaluation:
 
     async def result(self, timeout: Optional[float] = None) -> Answer:
         """Waits for the answer, which is on the disk then. Raises Lost, TimedOut (the line still waits), Died, ProtocolError, Closed."""
-        return await outcome(self._future, timeout, f"cell {self.id}")
+        return await self._result(timeout, timeout)
+
+    async def _result(self, timeout: Optional[float], given: Optional[float]) -> Answer:
+        """`timeout` is what is left of the time that was given, which TimedOut names."""
+        return await outcome(self._future, timeout, f"cell {self.id}", given)
 
     def __await__(self) -> Generator[Any, None, Answer]:
         return self.result().__await__()
@@ -235,12 +239,12 @@ class AsyncWorksheet:
     async def evaluate(self, cell: AsyncCellLike, timeout: Optional[float] = None) -> Answer:
         """Evaluates a cell, and waits for its answer. After TimedOut its line still waits: `AsyncCell.evaluation` is the way back to it."""
         moment = Moment(timeout)
-        evaluation = await self._eval(cell, moment.left(self._timeout))
-        return await evaluation.result(moment.left())
+        evaluation = await self._eval(cell, moment.left(self._timeout), moment.given(self._timeout))
+        return await evaluation._result(moment.left(), timeout)
 
     async def _eval(self, cell: AsyncCellLike, timeout: Optional[float]) -> AsyncEvaluation:
         evaluation = AsyncEvaluation(AsyncCell(self, id_of(self, cell)))
-        await self._connection.do(commands.Eval(evaluation.id, evaluation), timeout)
+        await self._connection.do(commands.Eval(evaluation.id, evaluation), timeout, given)
         return evaluation
 
     async def complete(
@@ -253,8 +257,8 @@ class AsyncWorksheet:
         if cursor is None:
             cursor = commands.length_of(self._field(id).input if text is None else text)
         future: "asyncio.Future[Optional[Completions]]" = new_future()
-        await self._connection.do(commands.Complete(id, cursor, future, text), moment.left(self._timeout))
-        return await outcome(future, moment.left(), "complete")
+        await self._connection.do(commands.Complete(id, cursor, future, text), moment.left(self._timeout), moment.given(self._timeout))
+        return await outcome(future, moment.left(), "complete", timeout)
 
     async def together(self, *changes: Change) -> List[Optional[int]]:
         """Does several changes as a whole, 1,024 at most: after a crash all of them are there or none, and where one is refused none is done, which

@@ -40,19 +40,26 @@ class Evaluation(Future[Answer]):
 
     def result(self, timeout: Optional[float] = None) -> Answer:
         """Waits for the answer, which is on the disk then. Raises Lost, TimedOut (the line still waits), Died, ProtocolError, Closed."""
-        error = self.exception(timeout)
+        return self._result(timeout, timeout)
+
+    def exception(self, timeout: Optional[float] = None) -> Optional[BaseException]:
+        """Waits as `result` does, and gives what that would raise but TimedOut, which it raises itself."""
+        return self._exception(timeout, timeout)
+
+    def _result(self, timeout: Optional[float], given: Optional[float]) -> Answer:
+        """`timeout` is what is left of the time that was given, which TimedOut names."""
+        error = self._exception(timeout, given)
         if error is not None:
             raise copy.copy(error)
         return super().result()
 
-    def exception(self, timeout: Optional[float] = None) -> Optional[BaseException]:
-        """Waits as `result` does, and gives what that would raise but TimedOut, which it raises itself."""
+    def _exception(self, timeout: Optional[float], given: Optional[float]) -> Optional[BaseException]:
         if not self.done():
             self.cell.worksheet._connection.refuse_reader()
         try:
             return super().exception(timeout)
         except FutureTimeout:
-            raise TimedOut(f"cell {self.id} has no answer after {timeout} seconds") from None
+            raise TimedOut(f"cell {self.id} has no answer after {given} seconds") from None
 
 
 class Cell(CellView):
@@ -244,11 +251,11 @@ class Worksheet:
     def evaluate(self, cell: CellLike, timeout: Optional[float] = None) -> Answer:
         """Evaluates a cell, and waits for its answer. After TimedOut its line still waits: `Cell.evaluation` is the way back to it."""
         moment = Moment(timeout)
-        return self._eval(cell, moment.left(self._timeout)).result(moment.left())
+        return self._eval(cell, moment.left(self._timeout), moment.given(self._timeout))._result(moment.left(), timeout)
 
-    def _eval(self, cell: CellLike, timeout: Optional[float]) -> Evaluation:
+    def _eval(self, cell: CellLike, timeout: Optional[float], given: Optional[float] = None) -> Evaluation:
         evaluation = Evaluation(Cell(self, id_of(self, cell)))
-        self._connection.do(commands.Eval(evaluation.id, evaluation), timeout)
+        self._connection.do(commands.Eval(evaluation.id, evaluation), timeout, given)
         return evaluation
 
     def complete(
@@ -261,8 +268,8 @@ class Worksheet:
         if cursor is None:
             cursor = commands.length_of(self._field(id).input if text is None else text)
         future: "Future[Optional[Completions]]" = Future()
-        self._connection.do(commands.Complete(id, cursor, future, text), moment.left(self._timeout))
-        return outcome(future, moment.left(), "complete")
+        self._connection.do(commands.Complete(id, cursor, future, text), moment.left(self._timeout), moment.given(self._timeout))
+        return outcome(future, moment.left(), "complete", timeout)
 
     def together(self, *changes: Change) -> List[Optional[int]]:
         """Does several changes as a whole, 1,024 at most: after a crash all of them are there or none, and where one is refused none is done, which
@@ -316,7 +323,7 @@ class Worksheet:
             command = make()
             future = self._connection.start(command)
             self._ordering = future
-            return outcome(future, moment.left(), command.word)
+            return outcome(future, moment.left(), command.word, self._timeout)
         finally:
             self._order.release()
 

@@ -29,12 +29,12 @@ PAUSE = 0.002  # seconds between two looks at whether the program has ended, whe
 Listener = Callable[[Event], None]
 
 
-def outcome(future: "Future[T]", timeout: Optional[float], what: str) -> T:
-    """The result of a future, each time with an error of its own."""
+def outcome(future: "Future[T]", timeout: Optional[float], what: str, given: Optional[float] = None) -> T:
+    """The result of a future, each time with an error of its own. That names the time which was `given`, where `timeout` is what is left of it."""
     try:
         error = future.exception(timeout)
     except FutureTimeout:
-        raise TimedOut(f"{what}: {timeout} seconds are over") from None
+        raise TimedOut(f"{what}: {timeout if given is None else given} seconds are over") from None
     if error is not None:
         raise copy.copy(error)
     return future.result()
@@ -51,12 +51,17 @@ class Moment:
     """The end of a time that may be spent in several parts."""
 
     def __init__(self, timeout: Optional[float]) -> None:
+        self._timeout = timeout
         self._at = None if timeout is None else time.monotonic() + timeout
 
     def left(self, most: Optional[float] = None) -> Optional[float]:
         """The seconds until then, or `most` where that is less; None for no end."""
         left = None if self._at is None else max(0.0, self._at - time.monotonic())
         return most if left is None else left if most is None else min(left, most)
+
+    def given(self, most: Optional[float] = None) -> Optional[float]:
+        """The same of the whole time: what is named where it is over."""
+        return most if self._timeout is None else self._timeout if most is None else min(self._timeout, most)
 
 
 class Connection:
@@ -107,8 +112,8 @@ class Connection:
         if threading.current_thread() is self._reader:
             raise RuntimeError("a callback of an Evaluation runs on the thread that reads, and can't wait for it: use listen")
 
-    def do(self, command: Command[R], timeout: Optional[float]) -> R:
-        return outcome(self.start(command), timeout, command.word)
+    def do(self, command: Command[R], timeout: Optional[float], given: Optional[float] = None) -> R:
+        return outcome(self.start(command), timeout, command.word, given)
 
     def listen(self, callback: Listener) -> Callable[[], None]:
         with self.lock:

@@ -61,11 +61,12 @@ class NoScript(TmhostError):
 
 
 class Lost(TmhostError):
-    """The interpreter ended before it answered. `reason` is one of the nine names of docs/use/SCRIPT.md, as "Ended" or "Stopped"."""
+    """The interpreter ended before it answered. `reason` is one of the nine names of docs/use/SCRIPT.md, as "Ended" or "Stopped", and `words` are those
+    that start it."""
 
-    def __init__(self, reason: str) -> None:
-        super().__init__(reason)
-        self.reason = reason
+    def __init__(self, reason: str, words: Tuple[str, ...] = ()) -> None:
+        super().__init__(reason, words)
+        self.reason, self.words = reason, words
 
     def __str__(self) -> str:
         return f"lost: {self.reason}"

@@ -183,8 +183,9 @@ class Protocol:
         """The first line keeps the reason, but where the same piece of output had an answer too, or where the journal has no room for it
         (docs/dev/HOST.md, "What an event does"). Neither can be seen from here, so the cell is looked at."""
         items = self.mirror.ended(session, reason, lost)
+        words = self.mirror.sessions[session].words
         for item in items:
-            taken.fail(item.waiter, Lost(reason))
+            taken.fail(item.waiter, Lost(reason, words))
         if items and items[0].cursor is None:
             taken.lines.append(self.send(Look(items[0].id), Nobody()))
 

@@ -22,11 +22,12 @@ T = TypeVar("T")
 AsyncListener = Callable[[Event], Union[None, Awaitable[None]]]
 
 
-async def outcome(future: "asyncio.Future[T]", timeout: Optional[float], what: str) -> T:
-    """The result of a future, each time with an error of its own. It outlives the task that waits for it."""
+async def outcome(future: "asyncio.Future[T]", timeout: Optional[float], what: str, given: Optional[float] = None) -> T:
+    """The result of a future, each time with an error of its own. That names the time which was `given`, where `timeout` is what is left of it. The
+    future outlives the task that waits for it."""
     done, _ = await asyncio.wait({future}, timeout=timeout)
     if not done:
-        raise TimedOut(f"{what}: {timeout} seconds are over")
+        raise TimedOut(f"{what}: {timeout if given is None else given} seconds are over")
     error = future.exception()
     if error is not None:
         raise copy.copy(error)
@@ -96,8 +97,8 @@ class AsyncConnection:
         self._send(self.protocol.send(command, future))
         return future
 
-    async def do(self, command: Command[R], timeout: Optional[float]) -> R:
-        return await outcome(self.start(command), timeout, command.word)
+    async def do(self, command: Command[R], timeout: Optional[float], given: Optional[float] = None) -> R:
+        return await outcome(self.start(command), timeout, command.word, given)
 
     def _send(self, line: bytes) -> None:
         if self._pipe is None:

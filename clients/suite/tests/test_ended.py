@@ -148,7 +148,7 @@ class Over(Case):
     def setUp(self) -> None:
         super().setUp()
         time = "a {timeout 1}"
-        over = [case("stuck", "2", f"{time} {{may_fail known}}"), case("stuck", "2", time), case("stuck", None, time), case("stuck", "? over 1 s", time)]
+        over = [case("stuck 601", "2", f"{time} {{may_fail known}}"), case("stuck 602", "2", time), case("stuck 603", None, time), case("stuck 604", "? over 1 s", time)]
         self.write(case("say 1", "1"), case("say 3", "4"), *over)
 
     def test_it_is_a_verdict_of_its_own(self) -> None:
@@ -157,10 +157,10 @@ class Over(Case):
         self.assertEqual({(one["end"], one["isError"]) for one in found}, {(None, False)})
         output = without_seconds(self.outcome.output)
         again = "(in an interpreter that was started again after line 27)"
-        self.assertIn(f"\nxfail, over 1 s: {self.path}:27 stuck (known)\nover: {self.path}:37 stuck {again}\n  @@ -1 +1 @@\n  -2\n  +? over 1 s\nover: {self.path}:47 stuck", output)
+        self.assertIn(f"\nxfail, over 1 s: {self.path}:27 stuck 601 (known)\nover: {self.path}:37 stuck 602 {again}\n  @@ -1 +1 @@\n  -2\n  +? over 1 s\nover: {self.path}:47 stuck 603", output)
         self.assertEqual((self.outcome.status, output.splitlines()[-1]), (1, "2 ok, 1 xfail, 1 differs, 2 over"))
         tap = self.read(self.place("tap"))
-        self.assertIn(f"\nnot ok 4 - {self.path}:37 stuck\n  ---\n  verdict: over\n", tap)
+        self.assertIn(f"\nnot ok 4 - {self.path}:37 stuck 602\n  ---\n  verdict: over\n", tap)
         self.assertEqual(tap.count("\n  over: 1\n"), 4)
         suite = xml.etree.ElementTree.parse(self.place("report.xml")).getroot()[0]
         self.assertEqual([suite.get(name) for name in ("tests", "failures", "errors", "skipped")], ["6", "1", "2", "1"])
@@ -171,9 +171,9 @@ class Over(Case):
         before = self.read()
         ran = self.run_suite(self.path, "--accept", "--github", "-")
         self.assertIn(f"{self.path}: 2 not accepted, since no answer came to a field\n{self.path}: 1 accepted\n", ran.output)
-        self.assertIn(f"::error file={self.path},line=37,title=over%3A stuck::its time was over (1 s)%0A", ran.output)
+        self.assertIn(f"::error file={self.path},line=37,title=over%3A stuck 602::its time was over (1 s)%0A", ran.output)
         self.assertEqual(self.read(), before.replace("````answer\n4\n````", "```answer\n3\n```"))
-        self.assertEqual([one["line"] for one in self.objects(self.path, "--rerun", "failed")][1:], [37, 47])
+        self.assertEqual([one["line"] for one in self.objects(self.path, "--rerun", "failed")], [17, 37, 47])
 
     def test_a_run_that_goes_on_knows_it(self) -> None:
         self.write(case("say 1", "1"), case("stuck", "2", "a {timeout 1}"), self.waiting())
