@@ -84,7 +84,7 @@ class Fields(unittest.TestCase):
             ("# it's '''\nx\ny", ["# it's '''", "x", "y"]), ("x = ''\ny = ''\nz", ["x = ''", "y = ''", "z"]), ("# x =\ny", ["# x =", "y"]),
         ):
             self.assertEqual(self.inputs(code, python), wanted, code)
-        self.assertEqual(self.inputs('x = """a\nb"""', "sh"), ['x = """a', 'b"""'])
+        self.assertEqual(self.inputs('x = """a\nb"""', "tmhost-tcl"), ['x = """a', 'b"""'])
         self.assertEqual([language_in(words.split()) for words in ("python3 /a/python", "python3 a.py", "a/gp --text", "")], ["python", "", "gp", ""])
 
     def test_what_is_longer_than_a_field_is_no_other_code(self) -> None:
@@ -96,7 +96,7 @@ class Fields(unittest.TestCase):
             first, *others = groups(list(code), language)
             self.assertEqual(first.misfit, f"refused: it has {length:,} bytes (each end of a line counts three), and a field has at most 4,095")
             self.assertEqual([it.input for it in others], list(code)[-len(others):])
-        self.assertGreater(len(list(groups(numbers, "sh"))), 1_000)
+        self.assertGreater(len(list(groups(numbers, ""))), 1_000)
         self.assertEqual([it.misfit for it in groups(["x" * 4_096], "python")], ["refused: it has 4,096 bytes, and a field has at most 4,095"])
 
     def test_remarks_at_the_left_edge_within_a_block(self) -> None:

@@ -7,10 +7,10 @@ import unittest
 
 from support import PROGRAM, ROOT, WORDS, Case, needs_program
 
-from tmhost import Died, Lost, NoWorksheet, Worksheet
-from tmhost.advice import ADVICE, OF_A_CACHE, UNSEEN, advised, reason_of_end
+from tmhost import Died, Lost, NoWorksheet, Refused, Worksheet
+from tmhost.advice import ADVICE, OF_A_CACHE, OF_LOSSES, OF_REFUSALS, UNSEEN, advised, reason_of_end
 
-FAULTS = os.path.join(ROOT, "docs", "use", "FAULTS.md")
+FAULTS, SCRIPT = (os.path.join(ROOT, "docs", "use", name) for name in ("FAULTS.md", "SCRIPT.md"))
 ROW = re.compile(r"^\| (\d+) (\w+)", re.MULTILINE)
 MOST_WORDS = 25
 
@@ -28,14 +28,37 @@ class Table(unittest.TestCase):
                 self.assertRegex(said, rf"\A/no/such/sheet: fault {number} {name}( at 52)?: [^{{}}]+[a-z)`/A-Z]\Z")
 
     def test_no_sentence_is_long(self) -> None:
-        for text in (*ADVICE.values(), *OF_A_CACHE.values(), UNSEEN):
+        for text in (*ADVICE.values(), *OF_A_CACHE.values(), *OF_REFUSALS.values(), *OF_LOSSES.values(), UNSEEN):
             for part in re.split(r"[;:] ", text):
                 self.assertLessEqual(len(part.split()), MOST_WORDS, part)
+
+    def test_each_refusal_and_each_reason_of_the_page_has_its_advice(self) -> None:
+        with open(SCRIPT, encoding="utf-8") as file:
+            page = file.read()
+        refusals = re.findall(r"^\| (\d+) \| (\w+) \|", page[page.index("## Refusals") : page.index("Where several apply")], re.MULTILINE)
+        self.assertEqual([name for _, name in refusals], list(OF_REFUSALS))
+        for number, name in refusals:
+            self.assertEqual(advised(Refused(name, int(number)), "sheet"), f"sheet: refused: {name} ({number}): {OF_REFUSALS[name]}")
+        self.assertIn("at most 4,095 bytes", advised(Refused("BadInput", 7), "sheet"))
+        reasons = re.search(r"The reasons are those of \[PROTOCOL\]\(.*?\): ([\w, ]+)\.", page)
+        assert reasons
+        self.assertEqual(sorted(reasons[1].split(", ")), sorted(OF_LOSSES))
+        for name in OF_LOSSES:
+            self.assertEqual(advised(Lost(name), "sheet"), f"sheet: lost: {name}: {OF_LOSSES[name]}")
+
+    def test_an_interpreter_that_cannot_be_started_is_named(self) -> None:
+        for words, why in (
+            (("tmhost-no-such", "-q"), "there is no program tmhost-no-such"),
+            (("tmhost-pyhton",), "there is no program tmhost-pyhton: is tmhost-python meant?"),
+            (("true", "-q"), f"true -q: {OF_LOSSES['StartRefused']}"),
+        ):
+            self.assertEqual(advised(Lost("StartRefused", words), "sheet"), f"sheet: lost: StartRefused: {why}")
+        self.assertEqual(advised(Lost("Ended", ("true",)), "sheet"), f"sheet: lost: Ended: {OF_LOSSES['Ended']}")
 
     def test_what_is_no_fault(self) -> None:
         for error, said in (
             (NoWorksheet("a/b"), "No such file or directory: a/b"), (Died(None, None, "", -9), "tmhost ended by signal 9"),
-            (Died("Later", 99, "", 1), "tmhost ended: fault 99 Later"), (Lost("Ended"), "lost: Ended"), (PermissionError(13, "Permission denied", "x"), "Permission denied: x"),
+            (Died("Later", 99, "", 1), "tmhost ended: fault 99 Later"), (Lost("Later"), "lost: Later"), (Refused("Later", 99), "refused: Later (99)"), (PermissionError(13, "Permission denied", "x"), "Permission denied: x"),
         ):
             self.assertEqual(advised(error, "sheet", "do it again"), said)
 

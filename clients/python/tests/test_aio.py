@@ -134,7 +134,7 @@ class Calls(AsyncCase):
     async def test_timeouts_and_tasks_that_are_cancelled(self) -> None:
         sheet = await self.open_async("a")
         cell = await sheet.new("a", "sleep 2")
-        with self.assertRaises(TimedOut):
+        with self.assertRaisesRegex(TimedOut, r"\A(cell 1|eval): 0\.1 seconds are over\Z"):
             await cell.evaluate(timeout=0.1)
         await sheet.refresh()  # after its reply the line is asked, however slow that was
         waits = cell.evaluation

@@ -173,6 +173,9 @@ class Lines(Case):
         cell = sheet.new("a", "x")
         self.assert_lost("StartRefused", cell.eval())
         self.assertEqual((cell.state, cell.reason), ("lost", "StartRefused"))
+        error = cell.eval().exception(SECONDS)
+        assert isinstance(error, Lost)
+        self.assertEqual(error.words, sheet.sessions[cell.session].words)
         self.assert_exact(sheet)
 
     def test_timeouts(self) -> None:
@@ -183,6 +186,7 @@ class Lines(Case):
         with self.assertRaises(TimeoutError) as reported:
             cell.evaluate(timeout=0.3)
         self.assertIsInstance(reported.exception, TimedOut)
+        self.assertRegex(str(reported.exception), r"\A(cell 2 has no answer after 0\.3 seconds|eval: 0\.3 seconds are over)\Z")  # the time that was given
         self.assertTrue(0.3 <= time.monotonic() - begun < SECONDS / 2)
         sheet.refresh()  # after its reply the line is asked, however slow that was
         waits = cell.evaluation
@@ -267,7 +271,7 @@ class Completing(Case):
         sheet.new("a_tab", "x").evaluate()
         line, asked = sheet.new("a_tab", "sleep 60"), sheet.new("a_tab", "re")
         waits = line.eval()
-        self.assertRaises(TimedOut, asked.complete, timeout=0.05)
+        self.assertRaisesRegex(TimedOut, r"\Acomplete: 0\.05 seconds are over\Z", asked.complete, timeout=0.05)
         asked.remove()
         after = sheet.new("a_tab", "count").eval()
         self.interrupt(waits)

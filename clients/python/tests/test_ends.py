@@ -177,7 +177,7 @@ class Ends(Case):
         thread = threading.Thread(target=sheet.wait, args=(1,))
         thread.start()
         self.until(lambda: sheet._connection.protocol._awaited)
-        self.assertRaises(TimedOut, quick.evaluate, timeout=0.2)
+        self.assertRaisesRegex(TimedOut, r"\Aeval: 0\.2 seconds are over\Z", quick.evaluate, timeout=0.2)
         thread.join(SECONDS)
         sheet.wait(60)
         self.assertEqual((quick.text, quick.evaluate(timeout=SECONDS).text), ("x", "x"))

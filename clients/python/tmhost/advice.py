@@ -1,10 +1,12 @@
-"""What a person is shown of an error of a worksheet: of a fault its path, what it means and what to do, in a line. docs/use/FAULTS.md has it whole."""
+"""What a person is shown of an error of a worksheet: its path, what it means and what to do, in a line. docs/use/FAULTS.md has it whole of faults,
+docs/use/SCRIPT.md of commands that are refused, docs/use/PROTOCOL.md of lines that are lost."""
 
 import os
 from typing import Dict, Iterator, Optional
 
-from .errors import DISK, Died, NoWorksheet, plain
+from .errors import DISK, Died, Lost, NoWorksheet, Refused, plain
 from .program import death, fault_in
+from .starting import doubt
 
 SECOND = ".alt"  # of a worksheet's second file
 DAMAGED, NOT_A_SHEET = 30, 31
@@ -41,6 +43,40 @@ BY_END = {
     **dict.fromkeys((".md", ".markdown", ".rmd", ".qmd"), "for a Markdown text use tmhost-weave or tmhost-import"),
     **dict.fromkeys((".ipynb", ".org", ".tm"), "tmhost-import makes one of it"),
 }
+# By the name of a refusal.
+OF_REFUSALS: Dict[str, str] = {
+    "NoSession": "there is no session of this name; make it first",
+    "NoField": "there is no field with this number; `tmhost show` has the numbers",
+    "InFlight": "the field waits for its answer; wait for that, or interrupt or stop its session",
+    "SessionExists": "a session has this name already; use that one, or take another name",
+    "BadName": "a name has 1 to 32 letters, digits, _ and -",
+    "BadWords": "an interpreter has 1 to 16 words, each of at most 1,024 bytes and without control characters",
+    "BadInput": "an input has at most 4,095 bytes, and no control characters; cut it into several",
+    "SamePlace": "the field stands there already, so there is nothing to do",
+    "TooManySessions": "there are 64 sessions; use one of them, or begin a new worksheet",
+    "TooManyFields": "there are 10,000 fields; remove some, or begin a new worksheet",
+    "IdsSpent": "the last number for a field was given out; begin a new worksheet",
+    "NoTab": "the session completes nothing; a session that does is made with its flag for that",
+    "BadCursor": "the cursor is past the end of the text, or inside a character; it counts bytes",
+    "QueueFull": "1,024 lines wait in this session; wait for their answers, or stop it",
+    "LivesSpent": "100,000 interpreters were started since the worksheet was opened; open it again",
+    "JournalFull": "the file of the worksheet is full; a checkpoint makes it shorter, else begin a new worksheet",
+    "OutOfMemory": "there wasn't memory enough for it; do it again with more",
+}
+# By the reason for which a line was lost.
+AGAIN = "evaluate it again, after what it needs"
+ADAPTER = "is it started by an adapter, as tmhost-gp?"
+OF_LOSSES: Dict[str, str] = {
+    "StartRefused": "the interpreter can't be started; install it, or put its folder into PATH",
+    "Ended": f"the interpreter ended before it answered, and what was set in it is gone; {AGAIN}",
+    "ReadFault": f"what the interpreter wrote couldn't be read, so it was ended; {AGAIN}",
+    "SendFault": f"the line couldn't be sent, since the interpreter had ended; {AGAIN}",
+    "Stalled": f"its time was over, so the interpreter was ended; {AGAIN}, with more time",
+    "BadTag": f"the interpreter wrote a block with a bad tag, so it was ended; {ADAPTER}",
+    "TooDeep": f"the interpreter wrote blocks too deep in one another, so it was ended; {ADAPTER}",
+    "TooLong": "the interpreter wrote a block that is too long, so it was ended; have it print less",
+    "Stopped": f"the session was stopped, and what was set in it is gone; {AGAIN}",
+}
 UNSEEN = "it can't be opened, read or written; look at the path, at who may write there, and for room on the disk"
 
 
@@ -51,6 +87,10 @@ def advised(error: BaseException, path: str, again: Optional[str] = None) -> str
 
 def reason(error: BaseException, path: str, again: Optional[str] = None) -> str:
     """The same without the path in front, where that was named."""
+    if isinstance(error, Refused):
+        return plain(error) + (f": {OF_REFUSALS[error.name]}" if has_advice(error) else "")
+    if isinstance(error, Lost):
+        return plain(error) + (f": {why_lost(error)}" if has_advice(error) else "")
     if not isinstance(error, Died) or not has_advice(error):
         return plain(error)
     at = "" if error.offset is None else f" at {error.offset}"
@@ -63,7 +103,19 @@ def reason(error: BaseException, path: str, again: Optional[str] = None) -> str:
 
 
 def has_advice(error: BaseException) -> bool:
+    if isinstance(error, Refused):
+        return error.name in OF_REFUSALS
+    if isinstance(error, Lost):
+        return error.reason in OF_LOSSES
     return isinstance(error, Died) and not isinstance(error, NoWorksheet) and error.number in ADVICE
+
+
+def why_lost(lost: Lost) -> str:
+    """What a reason means and what to do: of an interpreter that can't be started its words, and what is known of them."""
+    if lost.reason == "StartRefused" and lost.words:
+        why = doubt(lost.words)
+        return why if why else f"{' '.join(lost.words)}: {OF_LOSSES[lost.reason]}"
+    return OF_LOSSES[lost.reason]
 
 
 def reason_of_end(said: str, status: int, path: str) -> str:

@@ -42,9 +42,9 @@ class AsyncEvaluation:
 
     async def result(self, timeout: Optional[float] = None) -> Answer:
         """Waits for the answer, which is on the disk then. Raises Lost, TimedOut (the line still waits), Died, ProtocolError, Closed."""
-        return await self._result(timeout, timeout)
+        return await self._answer_in(timeout, timeout)
 
-    async def _result(self, timeout: Optional[float], given: Optional[float]) -> Answer:
+    async def _answer_in(self, timeout: Optional[float], given: Optional[float]) -> Answer:
         """`timeout` is what is left of the time that was given, which TimedOut names."""
         return await outcome(self._future, timeout, f"cell {self.id}", given)
 
@@ -240,9 +240,9 @@ class AsyncWorksheet:
         """Evaluates a cell, and waits for its answer. After TimedOut its line still waits: `AsyncCell.evaluation` is the way back to it."""
         moment = Moment(timeout)
         evaluation = await self._eval(cell, moment.left(self._timeout), moment.given(self._timeout))
-        return await evaluation._result(moment.left(), timeout)
+        return await evaluation._answer_in(moment.left(), timeout)
 
-    async def _eval(self, cell: AsyncCellLike, timeout: Optional[float]) -> AsyncEvaluation:
+    async def _eval(self, cell: AsyncCellLike, timeout: Optional[float], given: Optional[float] = None) -> AsyncEvaluation:
         evaluation = AsyncEvaluation(AsyncCell(self, id_of(self, cell)))
         await self._connection.do(commands.Eval(evaluation.id, evaluation), timeout, given)
         return evaluation

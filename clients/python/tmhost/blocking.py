@@ -40,20 +40,20 @@ class Evaluation(Future[Answer]):
 
     def result(self, timeout: Optional[float] = None) -> Answer:
         """Waits for the answer, which is on the disk then. Raises Lost, TimedOut (the line still waits), Died, ProtocolError, Closed."""
-        return self._result(timeout, timeout)
+        return self._answer_in(timeout, timeout)
 
     def exception(self, timeout: Optional[float] = None) -> Optional[BaseException]:
         """Waits as `result` does, and gives what that would raise but TimedOut, which it raises itself."""
-        return self._exception(timeout, timeout)
+        return self._error_in(timeout, timeout)
 
-    def _result(self, timeout: Optional[float], given: Optional[float]) -> Answer:
+    def _answer_in(self, timeout: Optional[float], given: Optional[float]) -> Answer:
         """`timeout` is what is left of the time that was given, which TimedOut names."""
-        error = self._exception(timeout, given)
+        error = self._error_in(timeout, given)
         if error is not None:
             raise copy.copy(error)
         return super().result()
 
-    def _exception(self, timeout: Optional[float], given: Optional[float]) -> Optional[BaseException]:
+    def _error_in(self, timeout: Optional[float], given: Optional[float]) -> Optional[BaseException]:
         if not self.done():
             self.cell.worksheet._connection.refuse_reader()
         try:
@@ -251,7 +251,7 @@ class Worksheet:
     def evaluate(self, cell: CellLike, timeout: Optional[float] = None) -> Answer:
         """Evaluates a cell, and waits for its answer. After TimedOut its line still waits: `Cell.evaluation` is the way back to it."""
         moment = Moment(timeout)
-        return self._eval(cell, moment.left(self._timeout), moment.given(self._timeout))._result(moment.left(), timeout)
+        return self._eval(cell, moment.left(self._timeout), moment.given(self._timeout))._answer_in(moment.left(), timeout)
 
     def _eval(self, cell: CellLike, timeout: Optional[float], given: Optional[float] = None) -> Evaluation:
         evaluation = Evaluation(Cell(self, id_of(self, cell)))
