@@ -22,7 +22,7 @@ INTERPRETER = [sys.executable, os.path.join(HERE, "interpreter.py")]
 SECONDS = 120.0  # in which everything comes, beside other work too
 LINE_END = "\u2028"
 
-sys.path[:0] = [os.path.join(ROOT, "clients/python"), os.path.join(ROOT, "clients")]
+sys.path[:0] = [os.path.join(ROOT, "clients", name) for name in ("python", "fences", "")]
 from tested import PROGRAM as PROGRAM, WHY, children_of as children_of, fields_of, heed_interrupts as heed_interrupts  # noqa: E402
 from tmhost import Field, Worksheet  # noqa: E402
 

@@ -94,6 +94,7 @@ class Pipe(Case):
         status, out, errors = self.pipe(b"a\n\xff\nb\x01\n" + b"x" * 4096 + b"\n" + b"y" * 70000 + b"\nc\n", self.sheet, "t")
         self.assertEqual((status, out), (1, "a\nc\n"))
         self.assertEqual(errors.count("refused"), 4)
+        self.assertIn("tmhost-repl: refused: BadInput (an input has at most 4,095 bytes, and no control characters; cut it into several)\n", errors)
         self.assertEqual(self.pairs(), [("a", "a"), ("c", "c")])
 
     def test_an_interpreter_that_is_missing(self) -> None:

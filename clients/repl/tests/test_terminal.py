@@ -17,11 +17,11 @@ class Lines(Case):
         """It takes the place of ours when it is reported, and the banner stands in front of the first line. Later lines are typed at it."""
         self.make()
         terminal = self.terminal()
-        terminal.sees(r"\At>\Z")
+        terminal.sees(r"\A\(%help says what else can be typed\)\nt>\Z")
         terminal.send("hello\r")
-        terminal.sees(r"\ATester 1\.0\n1\] hello\nhello\n2\]\Z")
+        terminal.sees(r"\A\(%help says what else can be typed\)\nTester 1\.0\n1\] hello\nhello\n2\]\Z")
         terminal.send("say a\\nb\r")
-        terminal.sees(r"\ATester 1\.0\n1\] hello\nhello\n2\] say a\\nb\na\nb\n3\]\Z")
+        terminal.sees(r"\A\(%help says what else can be typed\)\nTester 1\.0\n1\] hello\nhello\n2\] say a\\nb\na\nb\n3\]\Z")
         terminal.send("\r")
         terminal.sees(r"^3\]\n3\]\Z")
         terminal.send("\x04")
@@ -119,7 +119,7 @@ class Lines(Case):
         terminal.sees(r"^half of it\Z")
         with open(there, "w", encoding="ascii"):
             pass
-        terminal.sees(rf"\ATester 1\.0\n1\] work {re.escape(there)}\nall of it\n2\]\Z")
+        terminal.sees(rf"\A\(%help says what else can be typed\)\nTester 1\.0\n1\] work {re.escape(there)}\nall of it\n2\]\Z")
         terminal.send("\x04")
         self.assertEqual(terminal.ends(), 0)
 
@@ -150,7 +150,7 @@ class Lines(Case):
         terminal = self.terminal(columns=20)
         terminal.sees("t>")
         terminal.send("x" * 30 + "\r")
-        terminal.sees(r"\ATester 1\.0\n1\] x{17}\nx{13}\nx{20}\nx{10}\n2\]\Z")
+        terminal.sees(r"\A\(%help says what els\ne can be typed\)\nTester 1\.0\n1\] x{17}\nx{13}\nx{20}\nx{10}\n2\]\Z")
         terminal.send("y" * 17 + "\r")
         terminal.sees(r"^2\] y{17}\n+y{17}\n3\]\Z")
         terminal.send("%stop\r")
@@ -188,7 +188,7 @@ class Lines(Case):
         shown = terminal.sees(r"\\x1b\]0;title\\x07\n6\]\Z")
         for text in (r"\x1b[2J\x1b[31mred", r"\x9b2J", r"\u202eback", r"\x07\x0d\x08\x0e"):
             self.assertIn("\n" + text + "\n", shown)
-        self.assertTrue(shown.startswith("Tester 1.0\n1] say"))
+        self.assertTrue(shown.startswith("(%help says what else can be typed)\nTester 1.0\n1] say"))
 
     def test_an_output_from_a_pipe(self) -> None:
         """Lines that come from a pipe steer the terminal as little."""
@@ -468,4 +468,4 @@ class Opening(Case):
     def test_answers_that_are_there(self) -> None:
         self.make()
         self.pipe("a\nb\n", self.sheet, "t")
-        self.terminal().sees(r"\A\(2 answers are there, but not their variables.*\)\nt>\Z")
+        self.terminal().sees(r"\A\(2 answers are there, but not their variables.*\)\n\(%help says what else can be typed\)\nt>\Z")

@@ -4,6 +4,7 @@ import difflib
 from typing import Callable, Dict, List, Optional, Tuple, Union
 
 from tmhost import BadLine, Cell, Refused, Worksheet
+from tmhost.advice import OF_REFUSALS
 from tmhost.starting import doubt
 
 from .console import Console
@@ -139,8 +140,9 @@ class Commands:
         width = max(len(row[0]) for row in rows)
         self.console.show("\n".join(f"{left.ljust(width)}  {reported}" for left, reported in rows))
         self.console.show(
-            "A line that ends in a backslash goes on with the next one, and what is pasted is one input. Control-C interrupts what\n"
-            "runs, and a second one asks to stop it. A space in front of such a word sends the line to the interpreter."
+            "A line that ends in a backslash goes on with the next one, and what is pasted is one input. In a session of Python a\n"
+            "line that opens a block, brackets or a text asks for more, and an empty line ends it. Control-C interrupts what runs,\n"
+            "and a second one asks to stop it. A space in front of such a word sends the line to the interpreter."
         )
 
     def _quit(self, words: List[str]) -> None:
@@ -160,18 +162,8 @@ def ensure(worksheet: Worksheet, name: str, words: List[str], tab: bool) -> Opti
     return None
 
 
-EXPLAINED = {
-    "BadInput": "an input has at most 4,095 bytes, and no control characters",
-    "BadName": "a name has 1 to 32 letters, digits, _ and -",
-    "BadWords": "an interpreter has 1 to 16 words",
-    "InFlight": "the field waits for its answer",
-    "QueueFull": "1,024 lines wait in this session",
-    "TooManyFields": "there are 10,000 fields",
-}
-
-
 def explained(refused: Union[Refused, BadLine]) -> str:
     if isinstance(refused, BadLine):
         return "refused: the line is too long"
-    why = EXPLAINED.get(refused.name)
+    why = OF_REFUSALS.get(refused.name)
     return f"refused: {refused.name}" + (f" ({why})" if why else "")

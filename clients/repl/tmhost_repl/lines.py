@@ -1,16 +1,18 @@
-"""The lines that are to be evaluated, from a terminal or from a pipe. A line that ends in a backslash goes on with the next one."""
+"""The lines that are to be evaluated, from a terminal or from a pipe. A line that ends in a backslash goes on with the next one, and so does one of
+Python that is only a part of a statement."""
 
 import os
 import re
 import readline
 import sys
-from typing import Optional, Sequence
+from typing import List, Optional, Sequence
 
 from tmhost import Session, Worksheet
 
 from .completion import Completer, Draft
 from .console import Console, Terminal
 from .evaluation import Evaluator, control_c_raises
+from .statements import is_of_python, is_open
 from .texts import LINE_END, columns
 
 TEXT_OF_GP = re.compile(r'"(?:\\.|[^"\\])*"|\\\\.*')  # a string, or a remark: no backslash in them is one of the line
@@ -25,26 +27,34 @@ class Lines:
 
     def __init__(self, console: Console) -> None:
         self.console = console
-        self.is_for_gp = False
+        self.is_for_gp = self.is_for_python = False
+        self.is_statement = False  # the lines that are read belong to one of Python, not to each other by backslashes that go
 
     def know(self, words: Sequence[str]) -> None:
         """These words are for the program itself."""
 
     def enter(self, session: Session) -> None:
         """From now on the lines are for this session."""
-        self.is_for_gp = is_of_gp(session)
+        self.is_for_gp, self.is_for_python = is_of_gp(session), is_of_python(session)
 
-    def goes_on(self, line: str) -> bool:
-        return (TEXT_OF_GP.sub("", line) if self.is_for_gp else line).endswith("\\")
+    def going_on(self, before: List[str], line: str) -> Optional[str]:
+        """A line after which another one is asked for, as the input has it; None of the last one. gp gets the backslashes, since it joins the lines by
+        them as one; others would do the same, or something else, so they get none, and two statements can be typed. Within a statement Python gets
+        them. What was pasted is whole."""
+        has_backslash = (TEXT_OF_GP.sub("", line) if self.is_for_gp else line).endswith("\\")
+        if not before:
+            self.is_statement = self.is_for_python and not has_backslash
+        if self.is_statement:
+            return line if "\n" not in line and is_open([*before, line]) else None
+        return None if not has_backslash else line if self.is_for_gp else line[:-1]
 
     def next(self) -> Optional[str]:
-        """The next text that isn't empty. gp gets the backslashes, since it joins the lines by them as one; others would do the same, or
-        something else, so they get none, and two statements can be typed."""
+        """The next text that isn't empty."""
         while True:
-            parts = []
+            parts: List[str] = []
             line = self.read("")
-            while line is not None and self.goes_on(line):
-                parts.append(line if self.is_for_gp else line[:-1])
+            while line is not None and (part := self.going_on(parts, line)) is not None:
+                parts.append(part)
                 line = self.read("\n".join(parts) + "\n")
             if line or (line is not None and not parts):
                 parts.append(line)

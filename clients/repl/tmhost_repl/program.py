@@ -79,6 +79,8 @@ class Repl:
         answered = sum(field.session == session and field.answer is not None for field in self.worksheet.fields)
         if self.console.is_terminal and answered:
             self.console.note(f"{answered} answers are there, but not their variables: %eval-all evaluates all again")
+        if self.console.is_terminal:
+            self.console.note("%help says what else can be typed")
         while not self.commands.is_over:
             self.evaluator.tell_all()
             text = self.lines.next()

@@ -175,9 +175,9 @@ class Whole(Case):
         accepted = self.run_suite("--accept", self.path)
         self.assertEqual(accepted.status, 1)
         self.assertIn(f"{self.path}: 2 not accepted, since no answer came to a field\n{self.path}: 1 accepted\n", accepted.output)
-        self.assertEqual(self.verdicts(self.path), ["ended", "ok", "differs"])
+        self.assertEqual(self.verdicts(self.path), ["ended", "ok", "over"])
         self.run_suite("--accept", "--interactive", self.path, given="y\nn\n")
-        self.assertEqual(self.verdicts(self.path), ["ok", "ok", "differs"])
+        self.assertEqual(self.verdicts(self.path), ["ok", "ok", "over"])
 
     def test_an_answer_that_reads_as_a_pattern_is_accepted_as_it_is(self) -> None:
         self.write(case("say ...", "x"), case("say a (re)"))

@@ -180,11 +180,11 @@ class Chain:
         self._begin_life(at)
         if self.broken and not case.marks.is_teardown:
             return Result(f"? setting up again went wrong: {self.broken}", 0.0, began_anew=began_anew, is_lost=True)
-        began = time.monotonic()
-        until = began + (case.marks.timeout or self.suite.timeout or self.plan.seconds)
+        began, has = time.monotonic(), self._seconds_of(case)
+        until = began + has
         got: List[Shown] = []
         lost: List[Shown] = []
-        is_error, has_started, end, said, had, rules = False, True, "", "", 0.0, self.suite.rules_of(case)
+        is_error, has_started, end, said, over, rules = False, True, "", "", 0.0, self.suite.rules_of(case)
         try:
             for cell in self.kept.cells[at]:
                 answer = self._answer(cell, until)
@@ -193,16 +193,19 @@ class Chain:
         except Lost as ended:
             lost.append(Shown(f"? {ended.reason}"))
             end, (has_started, said) = ended.reason, self.kept.losses.of(cell)
-        except Over as over:
-            has_started, had = over.has_started, until - began
-            lost.append(Shown(f"? over {had:g} s"))
+        except Over as late:
+            has_started, over = late.has_started, has
+            lost.append(Shown(f"? over {has:g} s"))
         except Refused as refused:
             lost.append(Shown(f"? {refused}"))
         if at in self.kept.misfits:
             lost.append(Shown(f"? {self.kept.misfits[at]}"))
         shown, taken = joined(got + lost), time.monotonic() - began
         result = Result(shown.text, taken, began_anew=began_anew, is_error=is_error, is_lost=bool(lost), errors=shown.errors, has_started=has_started)
-        return dataclasses.replace(result, end=end, said=said, over=had)
+        return dataclasses.replace(result, end=end, said=said, over=over)
+
+    def _seconds_of(self, case: Case) -> float:
+        return case.marks.timeout or self.suite.timeout or self.plan.seconds
 
     def _answer(self, cell: Cell, until: float) -> Answer:
         """The answer of a cell. Raises Lost, where its interpreter ended, Over, where the time is, and Refused."""
@@ -278,7 +281,7 @@ class Chain:
         try:
             for at in places:
                 case = self.suite.cases[at]
-                until = time.monotonic() + (case.marks.timeout or self.suite.timeout or self.plan.seconds)
+                until = time.monotonic() + self._seconds_of(case)
                 for cell in self.kept.cells[at]:
                     scratch.set(cell.input)
                     with contextlib.suppress(Over, Refused):
