@@ -163,6 +163,15 @@ class Front(unittest.TestCase):
         with self.assertRaisesRegex(Trouble, "no mapping of names, as in `sessions: {py"):
             front_of(["---", "sessions: [a]", "---"])
 
+    def test_what_is_no_yaml(self) -> None:
+        """Its lines are those of the file, from the first `---` on."""
+        for lines, said in (
+            (["title: a", "sessions: a: b"], "mapping values are not allowed here in line 3, column 12: "), (["sessions: {a: [b}"], "in line 2, column 15: .*'}' in line 2, column 17: "),
+            (["sessions:", "  a: b", " c: d"], "while parsing a block mapping in line 2, column 1: .* in line 4, column 2: "),
+        ):
+            with self.assertRaisesRegex(Trouble, r"\Athe front matter is no YAML: .*" + said):
+                front_of(["---", *lines, "---", "text"])
+
     def test_words_with_a_space(self) -> None:
         self.assertEqual(front_of(["---", "sessions: {a: tmhost-gp -q}", "---"]).sessions, {"a": ("tmhost-gp", "-q")})
         for words, meant in (("[gp -q]", "gp, -q"), ("['gp  -q ']", "gp, -q"), ("[a, b c]", "b, c")):

@@ -19,6 +19,8 @@ KEY = re.compile(r"^[\"']?(\w+)[\"']?[ \t]*:", re.MULTILINE)
 KEY_OF_MAPPING = re.compile(r"^[\"']?(\w+)[\"']?[ \t]*:[ \t]*(?:\{|(?:#.*)?\n[ \t]+\S+[ \t]*:)", re.MULTILINE)
 NAMES_SESSIONS = re.compile(r"^[ \t]*[\"']?sessions[\"']?[ \t]*:", re.MULTILINE)
 
+OF_TEXT = '"<unicode string>", '  # in what is said of YAML, before a line
+
 Sessions = Dict[str, Tuple[str, ...]]
 
 
@@ -73,10 +75,10 @@ def read_in(text: str) -> Tuple[Sessions, bool]:
     """The sessions, and whether each fence is one field."""
     yaml = needed("yaml", "python3-yaml")
     try:
-        # The base loader takes each scalar as it is written, so a session `no` or a word `010` is what it looks like.
-        root = yaml.compose(text + "\n", Loader=yaml.BaseLoader)
+        # The base loader takes each scalar as it is written, so a session `no` or a word `010` is what it looks like. Lines are counted from the file's first one.
+        root = yaml.compose(f"---\n{text}\n", Loader=yaml.BaseLoader)
     except (yaml.YAMLError, RecursionError) as error:
-        raise Trouble(f"the front matter is no YAML: {' '.join(str(error).split())}") from error
+        raise Trouble(f"the front matter is no YAML: {' '.join(str(error).replace(OF_TEXT, '').split())}") from error
     found: Sessions = {}
     is_whole = False
     found_pairs = pairs(yaml, root, "the front matter")

@@ -116,7 +116,8 @@ def front_in(lines: Sequence[str]) -> Dict[str, Any]:
     """What the front matter of these lines says. One whose keys look misspelt is refused, since its cases would be compared by other rules."""
     yaml = needed("yaml", "python3-yaml")
     try:
-        front: Dict[str, Any] = yaml.load("\n".join(lines), Loader=yaml.BaseLoader)
+        # The line in front stands for `---`, so that an error has the line of the file.
+        front: Dict[str, Any] = yaml.load("\n".join(["---", *lines]), Loader=yaml.BaseLoader)
     except yaml.YAMLError as error:
         raise Trouble(f"the front matter is no YAML: {' '.join(str(error).split())}") from error
     refuse_misspelt(map(str, front), KEYS)

@@ -134,6 +134,20 @@ class Pages(PageCase):
         self.assertEqual((done.status, done.errors.split("\n")[-2]), (1, f"{self.text}: formulas stay as their TeX: there is no program node (Debian's package nodejs)"))
         self.assertIn('<span class="tex">$x^2$</span>', self.body())
 
+    def test_formulas_without_katex(self) -> None:
+        """The page is written, with its prose set, and nothing else is said of it."""
+        self.write(self.front("a") + "*So* $x^2$\n\n" + fences([("a", "x")]))
+        os.mkdir(self.place("bin"))
+        os.symlink(shutil.which("env") or "", self.place("bin/env"))
+        said = "tmhost-typeset: KaTeX can't be started from /k; Debian has it in the package katex. The page has its formulas and prose as they were"
+        self.write(f"#!/bin/sh\necho \"{said}\" >&2\nexit 1\n", self.place("bin/node"))
+        os.chmod(self.place("bin/node"), 0o755)
+        done = self.run_weave("--html", self.page, self.text, PATH=self.place("bin"))
+        self.assertEqual((done.status, done.errors.split("\n")[1:]), (1, [
+            f"{self.text}: {self.page} is written", f"{self.text}: formulas stay as their TeX: KaTeX can't be started from /k; Debian has it in the package katex", "",
+        ]))
+        self.assertIn('<p><em>So</em> <span class="tex">$x^2$</span></p>', self.body())
+
     def test_names_of_headings(self) -> None:
         self.write("# Two words!\n\n# Two words\n\n## 1. Sum {#sum .x}\n\n## {-}\n\n### *A* `b`_c\n\nno fences\n")
         done = self.run_weave("--html", self.page, self.text)

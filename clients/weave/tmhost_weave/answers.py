@@ -24,10 +24,16 @@ class Piece:
 
 @dataclasses.dataclass(frozen=True)
 class Shown:
-    """What stands after a fence."""
+    """What stands after a fence. `is_left` is whether that stays as it stands, in each byte."""
 
     pieces: Tuple[Piece, ...] = ()
     is_folded: bool = False
+    is_left: bool = dataclasses.field(default=False, compare=False)
+
+    @property
+    def answers(self) -> int:
+        """How many of the pieces are answers, and no reasons why there is none."""
+        return sum(piece.kind != NO_ANSWER for piece in self.pieces)
 
 
 def longest_run(text: str) -> int:

@@ -179,6 +179,10 @@ class Document:
         parts: List[str] = []
         at = 0
         for fence, one in zip(self.fences, shown):
+            if one.is_left:
+                parts += self.lines[at : fence.until]
+                at = fence.until
+                continue
             closing = cut(self.lines[fence.end - 1])[0]
             line_end = cut(self.lines[fence.begin])[1]
             parts += self.lines[at : fence.end - 1]
@@ -193,7 +197,7 @@ class Document:
         further = 0
         for fence, one in zip(self.fences, shown):
             found[fence.begin] = further
-            further += len(lines_of(one, fence.prefix, fence.is_in_container)) - (fence.until - fence.end)
+            further += 0 if one.is_left else len(lines_of(one, fence.prefix, fence.is_in_container)) - (fence.until - fence.end)
         return found
 
     @property

@@ -42,6 +42,10 @@ class Ends:
                 self._ended[event.session] = AT_CODE if (event.session, event.life) in self._greeted else AT_START
                 self._changed.notify_all()
 
+    def has_greeted(self, session: str, life: Optional[int]) -> bool:
+        with self._changed:
+            return (session, life) in self._greeted
+
     def take(self, session: str) -> Optional[str]:
         """When the interpreter of a session ended that a caller has lost."""
         with self._changed:
@@ -62,6 +66,7 @@ class Evaluator:
         self.replayed: Dict[str, int] = {}  # how many fields were, of each session that has an interpreter
         self.others: Dict[str, int] = {}  # how many of those were answered otherwise than what is kept
         self.failed: Set[str] = set()  # sessions of which no further field is evaluated
+        self.unstarted: Set[str] = set()  # those of them that have failed since their interpreter never started
         self._asked: Dict[str, List[str]] = {}  # what the interpreter of each session has to have answered by now, and nothing else
         self._has_lost = False  # whether the last one was lost with its interpreter
         self._scratch: List[Cell] = []
@@ -82,6 +87,7 @@ class Evaluator:
             wanted.is_answered = wanted.failure is None
             if wanted.failure and not wanted.fence.is_pure:
                 self.failed.add(wanted.session)
+                self.unstarted |= {wanted.session} if wanted.is_unstarted else set()
         # The mark that stands in front of the others goes last.
         for cell in reversed(self._scratch):
             cell.remove()
@@ -99,6 +105,7 @@ class Evaluator:
     def _failure(self, wanted: Wanted) -> Optional[str]:
         """Evaluates a field, and tells why it has no answer."""
         if wanted.misfit or wanted.session in self.failed:
+            wanted.is_unstarted |= wanted.session in self.unstarted
             return wanted.misfit or UNTRIED
         assert wanted.id is not None
         cell = self.sheet.cell(wanted.id)
@@ -123,7 +130,7 @@ class Evaluator:
             failure = self._evaluate(cell, wanted, wanted)
             if failure != ENDED and not self._has_lost:
                 return failure
-            wanted.end = wanted.ender = None  # it may have ended before it was asked, while nothing was evaluated
+            wanted.end, wanted.ender, wanted.is_unstarted = None, None, False  # it may have ended before it was asked, while nothing was evaluated
         self._start(wanted.session)
         return self._replay(kept, wanted) or self._evaluate(cell, wanted, wanted)
 
@@ -162,10 +169,12 @@ class Evaluator:
             self._has_lost = True
             if lost.reason == "Ended":
                 wanted.end, wanted.ender = self._ends.take(cell.session), code
+            wanted.is_unstarted = lost.reason == "StartRefused" or wanted.end == AT_START
             return f"no answer: {lost.reason}"
         except Refused as refused:
             return str(refused)
         except TimedOut:
+            wanted.is_unstarted = not self._ends.has_greeted(cell.session, self.lives.number(cell.session))
             self.sheet.stop(cell.session)
             return f"no answer within {self.seconds:g} seconds"
         except Another:

@@ -4,8 +4,9 @@ import hashlib
 import os
 import re
 import urllib.parse
-from typing import Dict, List
+from typing import Dict, List, Set
 
+from .answers import PICTURE, Shown
 from .files import put_in_folder
 
 ADDRESS = re.compile(r"data:image/(\w+)(?:\+xml)?;base64,")
@@ -18,6 +19,7 @@ class Pictures:
     def __init__(self, path: str) -> None:
         self.folder = os.path.splitext(path)[0] + ".pictures"
         self.wanted: Dict[str, bytes] = {}  # by the names of their files
+        self.left: Set[str] = set()  # names of those that the text shows as it stands, of which nothing else is known
 
     def add(self, address: str) -> str:
         """Where the text finds the picture with this address, which has all of its data."""
@@ -27,6 +29,10 @@ class Pictures:
         name = f"{hashlib.sha256(data).hexdigest()[:20]}.{found[1]}"
         self.wanted[name] = data
         return urllib.parse.quote(f"{os.path.basename(self.folder)}/{name}")
+
+    def leave(self, shown: Shown) -> None:
+        """Takes what stays in the text as it stands."""
+        self.left.update(urllib.parse.unquote(piece.text).rsplit("/", 1)[-1] for piece in shown.pieces if piece.kind == PICTURE)
 
     def missing(self) -> List[str]:
         return [name for name in self.wanted if not os.path.exists(os.path.join(self.folder, name))]
@@ -41,7 +47,7 @@ class Pictures:
         if not os.path.isdir(self.folder):
             return
         for name in os.listdir(self.folder):
-            if NAME.fullmatch(name) and name not in self.wanted:
+            if NAME.fullmatch(name) and name not in self.wanted and name not in self.left:
                 os.unlink(os.path.join(self.folder, name))
         if not os.listdir(self.folder):
             os.rmdir(self.folder)

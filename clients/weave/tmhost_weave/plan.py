@@ -16,7 +16,8 @@ NOTHING: Mapping[str, Sequence[str]] = {}
 @dataclasses.dataclass
 class Wanted:
     """A field of the text. `session` is the name that its session has in the worksheet, `line` where it stands in the text, from 1. Where an interpreter
-    has ended, `end` says when, and `ender` is the field at which it did, which is another one in a replay."""
+    has ended, `end` says when, and `ender` is the field at which it did, which is another one in a replay. `is_unstarted` says that it has no answer since its
+    interpreter never started."""
 
     fence: Fence
     session: str
@@ -29,6 +30,7 @@ class Wanted:
     failure: Optional[str] = None
     end: Optional[str] = None
     ender: "Optional[Wanted]" = None
+    is_unstarted: bool = False
 
     @property
     def session_in_text(self) -> str:

@@ -22,7 +22,8 @@ from .weaving import Weave
 ABOUT = "Evaluates the code in a CommonMark text, and puts each answer after its fence."
 NOTES = """
 With --html a page of the woven text is written, too, which stands alone: prose, code, answers, pictures, formulas, title and authors of the front matter.
-Nothing is evaluated for it a second time. It is written only where the status would be 0. It has no code of fences with echo=FALSE or include=FALSE.
+Nothing is evaluated for it a second time. It is written only where each field has an answer and nothing looks misspelt or fails; a picture or formulas may be missing in it.
+It has no code of fences with echo=FALSE or include=FALSE.
 Several texts are woven in turn: the status is that of the worst, and the last line names those that failed.
 With --watch the interpreters of a text run on between its weaves: what is added at the end of a session is evaluated alone. Where something is changed that
 was evaluated, its session is started again, as by any weave. The worksheet stays open meanwhile. Control-C ends it, with the status 0 where it waits.

@@ -14,6 +14,7 @@ BESIDE = ". "  # a formula that has its line for itself gets the large form, and
 OUTPUTS = re.compile(r'<pre class="out">(?:\. )?(.*?)</pre>\n', re.DOTALL)
 STYLES = re.compile(r"<head>\n(.*?)</head>", re.DOTALL)
 BY_TYPESET = "tmhost-typeset: "
+OF_ITS_PAGE = re.compile(r"\. The page has its .*")  # that of tmhost-typeset, which isn't the page of a text
 
 Formula = Tuple[str, bool]  # with its dollars, and whether it has its line for itself
 
@@ -52,5 +53,6 @@ def typeset(formulas: Iterable[Formula]) -> Formulas:
     written = done.stdout.decode("utf-8", "replace")
     found, styles = OUTPUTS.findall(written), STYLES.search(written)
     if done.returncode != 0 or len(found) != len(wanted) or not styles:
-        return as_tex(wanted, *(lines_of(done.stderr) or [f"formulas stay as their TeX: {COMMAND} ended with status {done.returncode}"]))
+        why = [OF_ITS_PAGE.sub("", line) for line in lines_of(done.stderr)] or [f"{COMMAND} ended with status {done.returncode}"]
+        return as_tex(wanted, f"formulas stay as their TeX: {why[0]}", *why[1:])
     return Formulas(dict(zip(wanted, found)), styles[1], tuple(lines_of(done.stderr)))

@@ -146,7 +146,7 @@ def make_session(sheet: Worksheet, plan: Plan, name: str) -> None:
         sheet.ensure_session(name, plan.words[name])
     except Refused as refused:
         for wanted in plan.of(name):
-            wanted.misfit = str(refused)
+            wanted.misfit, wanted.is_unstarted = str(refused), True
 
 
 def reuse(sheet: Worksheet, wanted: Wanted, field: Field) -> None:

@@ -25,6 +25,7 @@ from .plan import Plan, Wanted
 from .sheets import AGAIN, fit, has_no_space, make, opened, remove, sheet_path, shorten
 from .targets import page_of, pages_of, place_of
 from .telling import later_ones, reason_of, why_nothing
+from .unstarted import doubts, left, note_missing, said_of_left
 from .watching import Watched, lives_of
 from tmhost_fences.aside import fault_of, free_name, set_aside
 from tmhost_fences.blocks import cut as cut_line
@@ -32,6 +33,7 @@ from tmhost_fences.targets import refuse_target
 from tmhost_fences.troubles import Trouble
 
 MOST_LINES = 20  # of errors, in a message
+LEFT, NOT_COMPARED = "left as they stand", "not compared"  # what is done with answers of a session that never started
 CLEAR = "\r\x1b[K"  # takes a line of a terminal away
 
 
@@ -164,15 +166,14 @@ class Weave:
             sheet = lives.sheet
             self.plan = plan = Plan(self.document, sheet.sessions, sheet.fields, lives.all_answered)
             fit(sheet, plan)
-            for name in plan.words:
-                why = doubt(plan.words[name]) if plan.stale(name) else None
-                if why:
-                    self.say(f"{plan.of(name)[0].session_in_text}: {why}")
+            for why in doubts(plan):
+                self.say(why)
             evaluator = Evaluator(lives, plan, seconds, self.begun, self.late, self.watched.is_outdated if self.watched else None)
             try:
                 evaluator.evaluate_all()
             finally:
                 print(CLEAR * self.shows_progress, end="", file=sys.stderr, flush=True)
+            note_missing(plan)
             self.fields = {field.id: field for field in sheet.fields}
             if self.keeps and plan.is_stale:
                 shorten(sheet, self.sheet_path)
@@ -210,7 +211,7 @@ class Weave:
     # ---- the text
 
     def shown(self, plan: Plan) -> List[Shown]:
-        """What is to stand after each fence. After the first field without an answer nothing more is said of a fence."""
+        """What is to stand after each fence. After the first field without an answer nothing more is said of a fence, and where no interpreter started, all stays."""
         pieces: Dict[int, List[Piece]] = {fence.begin: [] for fence in self.document.fences}
         self.left_out = {}
         failed = set()
@@ -225,8 +226,11 @@ class Weave:
                 short, left_out = cut(found, self.longest)
                 pieces[fence.begin] += short
                 self.left_out.update({wanted.id: left_out} if left_out else {})
+        staying = left(plan)
+        for one in staying.values():
+            self.pictures.leave(one)
         shown = [(fence, tuple(pieces[fence.begin])) for fence in self.document.fences]
-        return [Shown(these, bool(these) and FOLD in fence.flags) for fence, these in shown]
+        return [staying.get(fence.begin) or Shown(these, bool(these) and FOLD in fence.flags) for fence, these in shown]
 
     def woven(self, plan: Plan) -> bytes:
         return bytes_of(self.document.checked(self.shown(plan)))
@@ -265,7 +269,7 @@ class Weave:
             plan.move(self.document.moved(shown))
         if self.watched and self.document.fences and not plan.is_stale and not self.page:
             self.say("nothing was to evaluate")
-        is_answered = self.is_answered(plan)
+        is_answered = self.is_answered(plan, LEFT)
         return self.write_page(shown, is_answered) and is_answered
 
     def write_page(self, shown: Sequence[Shown], is_answered: bool) -> bool:
@@ -284,10 +288,12 @@ class Weave:
             self.say(text)
         return page.is_whole
 
-    def is_answered(self, plan: Plan) -> bool:
-        """The same; says what isn't, and where a figure may be shown too early."""
+    def is_answered(self, plan: Plan, what: str) -> bool:
+        """The same; says what isn't, what is done with answers that stay as they stand, and where a figure may be shown too early."""
         failures = [wanted for wanted in plan.wanted if wanted.failure]
         self.tell_failures(failures, plan)
+        for text in said_of_left(plan, what):
+            self.say(text)
         self.tell_errors(plan)
         self.tell_left_out(plan)
         for line in self.early(plan):
@@ -360,7 +366,7 @@ class Weave:
         missing = self.pictures.missing() if woven == self.data else []
         for name in missing:
             print(f"{self.name}: the picture {name} isn't there")
-        return self.is_answered(plan) and woven == self.data and not missing
+        return self.is_answered(plan, NOT_COMPARED) and woven == self.data and not missing
 
     def check(self) -> bool:
         """Whether all is answered that is meant to be evaluated, and nothing would change; says what would."""
