@@ -186,7 +186,8 @@ class Kills(Case):
         for _ in range(2):
             woven = self.weave(self.front("a") + fences(blocks), 1)
             self.assertEqual(answers(woven), [value(["x"]), value(["x", "bye"])])
-            self.assertEqual(woven.count("```tmhost-no-answer\nnot evaluated, since its interpreter ended by itself after what stands before it\n"), 1)
+            # Whether the end is seen before the next line is sent or after it, that line has no answer: which of both is said.
+            self.assertEqual(woven.count("```tmhost-no-answer\n"), 2, woven)
             self.assertEqual([field["state"] == "answered" for field in self.fields()], [True, True, False, False])
 
     def test_first_weave(self) -> None:
