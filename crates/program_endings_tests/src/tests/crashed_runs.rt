@@ -25,6 +25,9 @@ const TEXTS: [&[u8]; 5] = [
     b"#1 a\n> z\n?\n",
 ];
 
+/// The place of the last of them.
+const LAST: usize = 4;
+
 /// What a crash leaves of the ranges that were written since the last sync.
 const FILLS: [(Fill, bool); 5] = [
     (Fill::Old, false),
@@ -95,7 +98,7 @@ fn moments(alloc: Global, fill: Fill, grown: bool) -> Option<u64> {
         match groups_left(alloc, moment, fill, grown) {
             Some(found) if found >= groups => groups = found,
             Some(_) => return None,
-            None if groups + 1 == TEXTS.len() => return Some(moment),
+            None if groups == LAST => return Some(moment),
             None => return None,
         }
     }
