@@ -34,7 +34,7 @@ pub enum NextLine {
 
 /// A read failed.
 #[derive(Clone, Copy, Debug, PartialEq, Eq)]
-pub(crate) struct ReadFault;
+pub(crate) struct FailedRead;
 
 /// Bytes of an input that were read and not given yet, in a room that is taken once.
 #[derive(Drop)]
@@ -83,7 +83,7 @@ fn own_bytes(line: &[u8]) -> usize
 }
 
 /// One read, tried again where it is interrupted.
-fn read_once<R: Read>(reader: &mut R, into: &mut [u8]) -> Result<usize, ReadFault>
+fn read_once<R: Read>(reader: &mut R, into: &mut [u8]) -> Result<usize, FailedRead>
     ensures size { length into.new ≡ length into.old }
     ensures few { IfOk result (λ len. len ≤ length into.new) }
     ensures bytes { ReadConsumes (R.remaining reader.old) (R.remaining reader.new) result into.new }
@@ -92,10 +92,10 @@ fn read_once<R: Read>(reader: &mut R, into: &mut [u8]) -> Result<usize, ReadFaul
         match reader.read(into) {
             Ok(len) => return Ok(len),
             Err(fault) if fault.kind() == ErrorKind::Interrupted => {}
-            Err(_) => return Err(ReadFault),
+            Err(_) => return Err(FailedRead),
         }
     }
-    Err(ReadFault)
+    Err(FailedRead)
 }
 
 /// Moves the bytes of this part to the front.
@@ -109,7 +109,7 @@ fn slide(room: &mut Vec<u8>, start: usize, end: usize)
 }
 
 /// One read into the room from this place on.
-fn read_after<R: Read>(reader: &mut R, room: &mut Vec<u8>, at: usize) -> Result<usize, ReadFault>
+fn read_after<R: Read>(reader: &mut R, room: &mut Vec<u8>, at: usize) -> Result<usize, FailedRead>
     requires { at < length room.old.items }
     ensures front { take at room.new.items ≡ take at room.old.items }
     ensures size { length room.new.items ≡ length room.old.items }
@@ -251,7 +251,7 @@ impl LineBuffer {
     }
 
     /// Reads once what is there, where there is room for it and the end wasn't reached.
-    pub(crate) fn read_from<R: Read>(&mut self, reader: &mut R) -> Result<(), ReadFault>
+    pub(crate) fn read_from<R: Read>(&mut self, reader: &mut R) -> Result<(), FailedRead>
         ensures ok { OnOk result ((bytes : List ℕ) × ReadAdds self.old self.new bytes) }
         ensures err { OnErr result (Same self.old self.new) }
         ensures end { self.old.ended ≡ false → self.new.ended ≡ true

@@ -5,9 +5,9 @@ use Rattle.std.proofs.lemmas.List.Quantifiers.{position-Some}
 use Rattle.std.proofs.lemmas.Option.{slice_get_read}
 use Rattle.child_calls.specs.Handing.{runs_for}
 use Rattle.child_calls.specs.Parts.{ByFirst}
-use Rattle.child_calls.specs.declared.lives.Running.{Running}
+use Rattle.child_calls.specs.declared.lives.RunningProcess.{RunningProcess}
 
-pub at-place : {P : Type 0} (name : List ℕ) (life : ℕ) (view rs : List (Running P)) (i : ℕ) (r : Running P) (none : Type 0) (by : ℕ → Running P → Type 0)
+pub at-place : {P : Type 0} (name : List ℕ) (life : ℕ) (view rs : List (RunningProcess P)) (i : ℕ) (r : RunningProcess P) (none : Type 0) (by : ℕ → RunningProcess P → Type 0)
     → view ≡ rs → position (runs_for name life) view ≡ Some i → r ≡ get_or rs i r → by i r → ByFirst (position (runs_for name life) rs) rs none by
 at-place name life view rs i r none by same is found did =
     let at = ap (position (runs_for name life)) (sym same) ∙ is in

@@ -5,7 +5,7 @@ use Rattle.child_calls.specs.Calls.{Call, start, send, receive, interrupt, stop,
 use Rattle.child_calls.specs.Deeds.{Deed}
 use Rattle.child_calls.specs.Parts.{ByFirst}
 use Rattle.child_calls.specs.Deeds as deed
-use Rattle.child_calls.specs.declared.lives.Running.{Running}
+use Rattle.child_calls.specs.declared.lives.RunningProcess.{RunningProcess}
 
 -- What the calls on processes, and on what launches them, may lead to.
 pub record Ways (L P : Type 0) : Type 1 where
@@ -21,29 +21,29 @@ ways launched signalled did = record { launched = launched; signalled = signalle
 -- What launches processes, and those that run, in the order in which they were started.
 pub record Stand (L P : Type 0) : Type 0 where
   pub launcher : L
-  pub running : List (Running P)
+  pub running : List (RunningProcess P)
 
-abbrev pub stand : {L P : Type 0} → L → List (Running P) → Stand L P
+abbrev pub stand : {L P : Type 0} → L → List (RunningProcess P) → Stand L P
 stand launcher running = record { launcher = launcher; running = running }
 
-abbrev pub runs_for : {P : Type 0} → List ℕ → ℕ → Running P → Bool
+abbrev pub runs_for : {P : Type 0} → List ℕ → ℕ → RunningProcess P → Bool
 runs_for name life r = bytes_eq r.name name && (r.life == life)
 
 -- the process of a life
-abbrev pub launched_for : {P : Type 0} → List ℕ → ℕ → P → Running P
+abbrev pub launched_for : {P : Type 0} → List ℕ → ℕ → P → RunningProcess P
 launched_for name life p = record { name = name; life = life; process = p }
 
 -- the same life, whose process stands so now
-abbrev pub with_process : {P : Type 0} → P → Running P → Running P
+abbrev pub with_process : {P : Type 0} → P → RunningProcess P → RunningProcess P
 with_process p r = record r { process = p }
 
 module _ {L P : Type 0} (s : Stand L P) where
   -- by the first child of this life; where none runs nothing is called, and the answer is a fault
-  abbrev pub AtLife : List ℕ → ℕ → Answer → Stand L P → (ℕ → Running P → Type 0) → Type 0
+  abbrev pub AtLife : List ℕ → ℕ → Answer → Stand L P → (ℕ → RunningProcess P → Type 0) → Type 0
   AtLife name life a t by = ByFirst (position (runs_for name life) s.running) s.running ((a ≡ fault) × (t ≡ s)) by
 
   -- this process is in the place of the one that was there, and all else is as before
-  abbrev pub Changed : ℕ → Running P → P → L → Stand L P → Type 0
+  abbrev pub Changed : ℕ → RunningProcess P → P → L → Stand L P → Type 0
   Changed i r p launcher t = t ≡ stand launcher (slice_set s.running i (with_process p r))
 
 module _ {L P : Type 0} (w : Ways L P) where

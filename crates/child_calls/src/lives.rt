@@ -24,7 +24,7 @@ const LARGEST_KEPT: usize = 33_500_000;
 
 /// The process of a life.
 #[derive(Drop)]
-pub struct Running<P> {
+pub struct RunningProcess<P> {
     pub name: Name,
     pub life: u32,
     pub process: P,
@@ -38,7 +38,7 @@ pub struct Running<P> {
 pub struct Lives<L: Launcher + Drop> {
     alloc: Global,
     launcher: L,
-    pub(crate) running: Vec<Running<L::Process>>,
+    pub(crate) running: Vec<RunningProcess<L::Process>>,
     /// What is left of the room in which pieces are read. Small ones, of any life, share it.
     room: BytesMut,
 }
@@ -64,7 +64,7 @@ impl<L: Launcher + Drop> Lives<L> {
 }
 
 /// Where the process of a life is.
-fn place<P>(running: &[Running<P>], name: Name, life: u32) -> Option<usize>
+fn place<P>(running: &[RunningProcess<P>], name: Name, life: u32) -> Option<usize>
     ensures at_it { result ≡ position (runs_for name life) running.now }
     ensures fits { IfSome result (λ i. i < length running.now) }
 {
@@ -133,7 +133,7 @@ impl<L: Launcher + Drop> Children for Lives<L> {
         };
         match self.launcher.launch(words) {
             Ok(process) => {
-                self.running.push_reserved(Running {
+                self.running.push_reserved(RunningProcess {
                     name,
                     life,
                     process,

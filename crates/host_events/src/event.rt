@@ -17,7 +17,7 @@ pub enum ChildEvent {
     ReadFault,
     /// A line could not be sent to it. The life ends.
     SendFault,
-    /// An item of it still waits at the end of a wait (100,000 turns, or its time), whatever else it answered.
+    /// An item of it still waits at the end of a wait (100,000 rounds, or its time), whatever else it answered.
     /// The life ends.
     Stalled,
     /// It could not be stopped. Nothing comes of it.

@@ -10,8 +10,8 @@ use Rattle.journal.specs.Limits.{longest_payload}
 use Rattle.journal.specs.inside.Reads.{Begins}
 use Rattle.journal.specs.inside.Walk.{IsStep}
 use Rattle.journal.specs.inside.Window.{Shows}
-use Rattle.journal.specs.declared.walk.Step.{Step}
-use Rattle.journal.specs.declared.walk.Step.TheVariants as steps
+use Rattle.journal.specs.declared.walk.GateContent.{GateContent}
+use Rattle.journal.specs.declared.walk.GateContent.TheVariants as steps
 use Rattle.journal.specs.declared.window.Window.{Window}
 use Rattle.journal.proofs.Unique.{whole_record}
 use Rattle.journal.proofs.Bytes.{records-push, ArePayloads-push, end-push}
@@ -90,7 +90,7 @@ damaged_here area gate more r here broken = (
 )
 
 -- what stands at a gate, from what the window shows there
-pub step_here : (w : Window) (area : List ℕ) (gate left : ℕ) (front : List ℕ) (step : Step) → Shows w area → left ≡ w.limit - gate → gate < w.limit
+pub step_here : (w : Window) (area : List ℕ) (gate left : ℕ) (front : List ℕ) (step : GateContent) → Shows w area → left ≡ w.limit - gate → gate < w.limit
     → ((rest : List ℕ) → left ≡ length rest → 0 < left → Begins front rest → IsStep longest_payload rest step)
     → ((shown : List ℕ) → Shows w shown → Begins front (drop gate shown)) → IsStep longest_payload (drop gate area) step
 step_here w area gate left front step shows is inside does begins =
@@ -109,7 +109,7 @@ header_shown front area begins enough has =
     )
 
 -- at a whole record the step names its length
-pub reported_here : (payload rest : List ℕ) (step : Step) → IsPayload longest_payload payload → 0 < length rest → IsStep longest_payload (record_of payload ++ rest) step → step ≡ steps.Record (length payload)
+pub reported_here : (payload rest : List ℕ) (step : GateContent) → IsPayload longest_payload payload → 0 < length rest → IsStep longest_payload (record_of payload ++ rest) step → step ≡ steps.Record (length payload)
 reported_here payload rest steps.End is some step = absurd (step.3 (sym (ap (λ (l : List ℕ). get_or l 0 0) step.2)))
 reported_here payload rest steps.Broken is some step =
     absurd (whole_record longest_payload (omega arith) payload rest is some (subst (λ (l : List ℕ). IsBroken longest_payload l) (sym (ap (λ (l : List ℕ). drop 1 l) step.1)) step.2))

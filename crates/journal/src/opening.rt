@@ -13,7 +13,7 @@ ghost use Rattle.journal.specs.declared.opening.CreateCause.TheVariants.{Disk as
 ghost use Rattle.journal.specs.declared.opening.OpenCause.TheVariants.{Disk as OpenDisk, OutOfMemory};
 
 use crate::layout::NAMES_SECOND;
-use crate::walk::{Stop, selector_of, walk_gates};
+use crate::walk::{WalkEnd, selector_of, walk_gates};
 use crate::window::Window;
 use disk_model::{Area, Disk, DiskFault};
 use std::alloc::{AllocError, AllocFailed, Global};
@@ -225,7 +225,7 @@ fn on_active<D: Disk>(alloc: Global, disk: &mut D) -> Result<Window, OpenCause>
 pub(crate) fn survey_front<D: Disk>(
     alloc: Global,
     disk: &mut D,
-) -> Result<(Window, Stop), OpenCause>
+) -> Result<(Window, WalkEnd), OpenCause>
     ensures reads { Reads (Fails result) (D.view disk.old) (D.view disk.new) }
     ensures front { InModel (D.view disk.old)
         (IfOk result (λ found. (payloads : List (List ℕ))

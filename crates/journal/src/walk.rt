@@ -26,7 +26,7 @@ pub struct Payload {
 
 // What stands at a gate.
 #[derive(Clone, Copy)]
-enum Step {
+enum GateContent {
     // The gate is closed.
     End,
     // What follows the gate is no record.
@@ -37,29 +37,29 @@ enum Step {
 
 /// The gate at which a walk ended: it is closed, or damaged.
 #[derive(Clone, Copy)]
-pub(crate) struct Stop {
+pub(crate) struct WalkEnd {
     pub(crate) gate: u64,
     pub(crate) damaged: bool,
 }
 
 // What stands at a gate, from the bytes there and how many there are up to the area's end.
-fn step_at(front: &[u8], left: u64) -> Step
+fn step_at(front: &[u8], left: u64) -> GateContent
     requires { min left 5 ≤ length front.now }
     ensures step { (rest : List ℕ) → left ≡ length rest → 0 < left → Begins front.now rest
         → IsStep longest_payload rest result }
     ensures len { IsLength left result }
 {
     let [OPEN_GATE, ..] = front else {
-        return Step::End;
+        return GateContent::End;
     };
     let [_, b0, b1, b2, b3, ..] = front else {
-        return Step::Broken;
+        return GateContent::Broken;
     };
     let len = u64::from(u32::from_be_bytes([*b0, *b1, *b2, *b3]));
     if len == 0 || len > LONGEST_PAYLOAD || left <= 5 + len {
-        return Step::Broken;
+        return GateContent::Broken;
     }
-    Step::Record(len)
+    GateContent::Record(len)
 }
 
 // The selector of a header, and what follows it.
@@ -80,7 +80,7 @@ fn after_header(bytes: &[u8]) -> Option<(u8, &[u8])>
 }
 
 /// Where the walk over the gates of the window's area ends, which begins with a header.
-pub(crate) fn walk_gates<D: Disk>(window: &mut Window, disk: &mut D) -> Result<Stop, OpenCause>
+pub(crate) fn walk_gates<D: Disk>(window: &mut Window, disk: &mut D) -> Result<WalkEnd, OpenCause>
     requires header { InModel (D.view disk.old) (HasHeader (area_of window.old.area
         (bytes_on (D.view disk.old)))) }
     requires some { first_gate < window.old.limit }
@@ -106,15 +106,15 @@ pub(crate) fn walk_gates<D: Disk>(window: &mut Window, disk: &mut D) -> Result<S
             return Err(cause);
         }
         match step_at(window.following(gate), left) {
-            Step::End => return Ok(Stop {
+            GateContent::End => return Ok(WalkEnd {
                 gate,
                 damaged: false,
             }),
-            Step::Broken => return Ok(Stop {
+            GateContent::Broken => return Ok(WalkEnd {
                 gate,
                 damaged: true,
             }),
-            Step::Record(len) => gate += 5 + len,
+            GateContent::Record(len) => gate += 5 + len,
         }
     }
 }
@@ -158,8 +158,8 @@ fn payload_len_at(front: &[u8], left: u64, most: u64) -> u64
         → Begins front.now (record_of payload ++ rest) → result ≡ length payload }
 {
     match step_at(front, left) {
-        Step::Record(len) => len.min(most),
-        Step::End | Step::Broken => 1,
+        GateContent::Record(len) => len.min(most),
+        GateContent::End | GateContent::Broken => 1,
     }
 }
 

@@ -9,14 +9,14 @@ use sheet_text::is_plain;
 
 /// Where the next byte stands, and how many bytes are held.
 #[derive(Clone, Copy, Debug)]
-pub(crate) struct Place {
+pub(crate) struct FillPoint {
     pub(crate) at: usize,
     pub(crate) used: usize,
 }
 
 /// Puts what stands there: a byte, or a 27 and the byte after it.
 #[inline(always)]
-fn put_one(bytes: &[u8], at: usize, room: &mut [u8], used: usize) -> Place
+fn put_one(bytes: &[u8], at: usize, room: &mut [u8], used: usize) -> FillPoint
     requires there { at < length bytes.now }
     requires place { used + 2 * MOST_PRINTED ≤ length room.old }
     ensures size { length room.new ≡ length room.old }
@@ -27,15 +27,15 @@ fn put_one(bytes: &[u8], at: usize, room: &mut [u8], used: usize) -> Place
 {
     let byte = bytes[at];
     if byte != 27 {
-        return Place {
+        return FillPoint {
             at: at + 1,
             used: put_spelled(byte, room, used),
         };
     }
     if bytes.len() - at < 2 {
-        return Place { at: at + 1, used };
+        return FillPoint { at: at + 1, used };
     }
-    Place {
+    FillPoint {
         at: at + 2,
         used: put_escaped(bytes[at + 1], room, used),
     }
@@ -43,7 +43,7 @@ fn put_one(bytes: &[u8], at: usize, room: &mut [u8], used: usize) -> Place
 
 /// Puts the bytes from there on that are printed as themselves, as many as are found 16 at once and have room.
 #[inline(always)]
-fn put_run(bytes: &[u8], at: usize, room: &mut [u8], used: usize) -> Place
+fn put_run(bytes: &[u8], at: usize, room: &mut [u8], used: usize) -> FillPoint
     requires there { at ≤ length bytes.now }
     requires place { used ≤ length room.old }
     ensures size { length room.new ≡ length room.old }
@@ -57,7 +57,7 @@ fn put_run(bytes: &[u8], at: usize, room: &mut [u8], used: usize) -> Place
     while bytes.len() - to >= LANES && room.len() - held >= LANES {
         let run = put_lanes(bytes, to, room, held);
         if run < LANES {
-            return Place {
+            return FillPoint {
                 at: to + run,
                 used: held + run,
             };
@@ -66,12 +66,12 @@ fn put_run(bytes: &[u8], at: usize, room: &mut [u8], used: usize) -> Place
         to += LANES;
         held += LANES;
     }
-    Place { at: to, used: held }
+    FillPoint { at: to, used: held }
 }
 
 /// Puts what stands there, and the bytes after it that are printed as themselves, as far as there is room.
 #[inline(always)]
-fn put_next(bytes: &[u8], at: usize, room: &mut [u8], used: usize) -> Place
+fn put_next(bytes: &[u8], at: usize, room: &mut [u8], used: usize) -> FillPoint
     requires there { at < length bytes.now }
     requires place { used + 2 * MOST_PRINTED ≤ length room.old }
     ensures size { length room.new ≡ length room.old }
@@ -89,7 +89,7 @@ fn put_next(bytes: &[u8], at: usize, room: &mut [u8], used: usize) -> Place
 
 /// Puts what stands from there on, as far as there is room.
 #[inline(never)]
-pub(crate) fn fill(bytes: &[u8], at: usize, room: &mut [u8], used: usize) -> Place
+pub(crate) fn fill(bytes: &[u8], at: usize, room: &mut [u8], used: usize) -> FillPoint
     requires there { at < length bytes.now }
     requires place { used + 2 * MOST_PRINTED ≤ length room.old }
     ensures size { length room.new ≡ length room.old }

@@ -9,5 +9,5 @@ mod stamping;
 
 pub use apart::serve_apart;
 pub use log::{Log, LogFault};
-pub use serving::{ServeFault, Tells, serve};
+pub use serving::{OpReporter, ServeFault, serve};
 pub use stamping::{Stamps, serve_writing};

@@ -6,7 +6,7 @@ ghost use Rattle.report_order.specs.Order.{BeginsWith, ServedInOrder, added_to};
 use crate::{Log, LogFault};
 
 /// What is lent the log when it reports that an op is done.
-pub trait Tells {
+pub trait OpReporter {
     ghost use Rattle.std.specs.Prelude.{Bool, ℕ};
     ghost use Rattle.report_order.specs.Log.{LogHistory};
 
@@ -40,7 +40,11 @@ pub(crate) fn put_durably<L: Log>(op: u32, log: &mut L) -> Result<(), LogFault>
 }
 
 /// Puts each op on the log, and reports it when it is durable.
-pub fn serve<L: Log, T: Tells>(ops: &[u32], log: &mut L, teller: &mut T) -> Result<(), ServeFault>
+pub fn serve<L: Log, T: OpReporter>(
+    ops: &[u32],
+    log: &mut L,
+    teller: &mut T,
+) -> Result<(), ServeFault>
     ensures served { (before : List ℕ) → (L.history log.old).now ≡ all_durable before
         → ServedInOrder T.tried (added_to before ops.now) (L.history log.new) teller.old teller.new
         result }

@@ -58,7 +58,7 @@ is_seen (Some byte) = nat_lt 32 byte && nat_lt byte 127
 abbrev pub is_tight : List ℕ → Bool
 is_tight inside = is_seen (slice_get inside 0) && is_seen (slice_get inside (length inside - 1))
 
--- how many braces are open after a byte
+-- how many braces are open after a byte that is no '}', where so many were before it
 abbrev pub depth_with : ℕ → ℕ → ℕ
 depth_with depth byte = cond (byte == 123) (depth + 1) depth
 

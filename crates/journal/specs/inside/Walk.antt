@@ -6,12 +6,12 @@ use Rattle.journal.specs.Damage.{IsBroken}
 use Rattle.journal.specs.Limits.{longest_payload}
 use Rattle.journal.specs.declared.opening.OpenCause.{OpenCause}
 use Rattle.journal.specs.declared.opening.OpenCause.TheVariants as causes
-use Rattle.journal.specs.declared.walk.Step.{Step}
-use Rattle.journal.specs.declared.walk.Step.TheVariants.{End, Broken, Record}
+use Rattle.journal.specs.declared.walk.GateContent.{GateContent}
+use Rattle.journal.specs.declared.walk.GateContent.TheVariants.{End, Broken, Record}
 
 -- what stands at the gate that these bytes begin with; of a record the length of its payload, which
 -- the bytes after it exceed
-abbrev pub IsStep : ℕ → List ℕ → Step → Type 0
+abbrev pub IsStep : ℕ → List ℕ → GateContent → Type 0
 IsStep limit rest End = (gate : ℕ) × (more : List ℕ) × (rest ≡ gate ∷ more) × (gate ≢ open_gate)
 IsStep limit rest Broken = (more : List ℕ) × (rest ≡ open_gate ∷ more) × IsBroken limit more
 IsStep limit rest (Record n) = (more : List ℕ)
@@ -19,7 +19,7 @@ IsStep limit rest (Record n) = (more : List ℕ)
 
 -- over any bytes: the length that a record tells is a payload's, and the record ends before the last
 -- of so many bytes
-abbrev pub IsLength : ℕ → Step → Type 0
+abbrev pub IsLength : ℕ → GateContent → Type 0
 IsLength left (Record n) = (1 ≤ n) × (n ≤ longest_payload) × (5 + n < left)
 IsLength left step = Unit {0}
 

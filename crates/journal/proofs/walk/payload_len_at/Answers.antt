@@ -1,6 +1,6 @@
 use Rattle.std.proofs.Common.{◌≡◌, ◌++◌, ⊎_elim, length, arith}
 use Rattle.journal.specs.Area.{record_of}
-use Rattle.journal.specs.declared.walk.Step.TheVariants as steps
+use Rattle.journal.specs.declared.walk.GateContent.TheVariants as steps
 use Rattle.journal.proofs.Walks.{reported_here}
 use Rattle.journal.proofs.walk.payload_len_at.Goals as goal
 

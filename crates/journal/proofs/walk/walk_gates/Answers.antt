@@ -2,7 +2,7 @@ use Rattle.std.proofs.Common.{◌-◌, refl, ◌∙◌, subst, arith}
 use Rattle.disk_model.specs.Disk.{Image, InModel, area_of, bytes_on}
 use Rattle.disk_model.specs.declared.disk.Area.{Area}
 use Rattle.journal.specs.inside.Window.{Shows}
-use Rattle.journal.specs.declared.walk.Step.TheVariants as steps
+use Rattle.journal.specs.declared.walk.GateContent.TheVariants as steps
 use Rattle.journal.proofs.Readings.{none_read, reads_on, so_before}
 use Rattle.journal.proofs.Walks.{at_first, closed_here, damaged_here, reached_on, step_here}
 use Rattle.journal.proofs.walk.walk_gates.Goals as goal

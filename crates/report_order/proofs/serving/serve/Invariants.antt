@@ -5,5 +5,5 @@ use Rattle.report_order.proofs.serving.serve.Given as goal
 
 abbrev pub invariant-loop-op : goal.invariant-loop-op
 invariant-loop-op g l = (before : List ℕ) → (g.L.Log.history l.initial.log).now ≡ all_durable before
-    → ReportedInOrder (g.T.Tells.tried) before (g.L.Log.history l.log) (take l.op-index l.ops) l.initial.teller l.teller
+    → ReportedInOrder (g.T.OpReporter.tried) before (g.L.Log.history l.log) (take l.op-index l.ops) l.initial.teller l.teller
     × ((g.L.Log.history l.log).now ≡ all_durable (before ++ take l.op-index l.ops))
