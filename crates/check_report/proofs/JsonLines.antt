@@ -12,8 +12,8 @@ use Rattle.sheet_json.specs.Tellings.{Telling}
 use Rattle.sheet_json.specs.Tellings as reported
 use Rattle.sheet_json.proofs.PlainValues.{tellings_are_plain}
 use Rattle.sheet_json.proofs.Within.{text_within}
-use Rattle.check_report.specs.declared.report.Format.TheVariants as format
-use Rattle.check_report.specs.declared.verdict.Counts.{Counts}
+use Rattle.check_report.specs.declared.report.ReportFormat.TheVariants as format
+use Rattle.check_report.specs.declared.verdict.VerdictCounts.{VerdictCounts}
 use Rattle.check_report.specs.Json.{counts_reported, json_head, json_tail}
 use Rattle.check_report.specs.Laws.{JsonIsItsLines, report_tellings}
 use Rattle.check_report.specs.Reports.{Case, cases_text, report_text, telling_of, judgements_of}
@@ -75,7 +75,7 @@ further a e b n c d x more =
     (ap (λ t. third ++ t) (part c last more longer
     (ap (λ t. fourth ++ t) (part d x more (x ++ more) refl)))))))))))
 
-counts_are : (counts : Counts) → compact_text (telling_data (counts_reported counts))
+counts_are : (counts : VerdictCounts) → compact_text (telling_data (counts_reported counts))
     ≡ row (decimal counts.differ) (decimal counts.errors) (decimal counts.left_out) (decimal counts.new) (decimal counts.same) (decimal counts.unanswered) (125 ∷ [])
 unfolding escape_byte
 counts_are counts = refl
@@ -84,7 +84,7 @@ end_is : telling_line reported.end ≡ codes "{\"type\":\"end\"}\n"
 unfolding escape_byte
 end_is = refl
 
-pub closing_is : (counts : Counts) → first_part counts ++ second_part counts ≡ json_tail counts
+pub closing_is : (counts : VerdictCounts) → first_part counts ++ second_part counts ≡ json_tail counts
 closing_is counts =
     let a = decimal counts.differ in
     let e = decimal counts.errors in
@@ -122,7 +122,7 @@ one_line t s = (compact_text (telling_data t), refl, text_within (telling_data t
 within : (n : ℕ) → n < 2 ^ 32 → n < 2 ^ 64
 within n h = omega (arith, h)
 
-counts_sound : (counts : Counts) → total counts < 2 ^ 32 → counts.errors < 2 ^ 32 → IsSoundTelling (counts_reported counts)
+counts_sound : (counts : VerdictCounts) → total counts < 2 ^ 32 → counts.errors < 2 ^ 32 → IsSoundTelling (counts_reported counts)
 counts_sound counts h e = (omega (arith, h), omega (arith, h), omega (arith, h), omega (arith, h), within counts.errors e, omega (arith, h))
 
 each_line : (cases : List Case) (more : List Telling) → AllByRecursion (λ c. IsSoundTelling (telling_of c)) cases → AllByRecursion (λ t. IsOneLine (telling_line t)) more

@@ -1,6 +1,6 @@
 -- Reports, by their points.
 use Rattle.std.proofs.Common.{◌≡◌, ◌+◌, ℕ, suc, List, [], ◌∷◌, ◌++◌, flat_map, length, map, refl, ap, sym, ◌∙◌, arith}
-use Rattle.check_report.specs.declared.report.Format.TheVariants as format
+use Rattle.check_report.specs.declared.report.ReportFormat.TheVariants as format
 use Rattle.check_report.specs.Junit.{head, junit_case, tail}
 use Rattle.check_report.specs.Laws.{ReportsAreTheirTexts}
 use Rattle.check_report.specs.Reports.{Case, cases_text, point_of, judgements_of}

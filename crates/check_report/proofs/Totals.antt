@@ -1,6 +1,6 @@
 -- How many cases are counted.
 use Rattle.std.proofs.Common.{◌≡◌, ◌+◌, ◌≤◌, Bool, true, false, List, [], ◌∷◌, length, refl, ap, ◌∙◌, arith}
-use Rattle.check_report.specs.declared.verdict.Counts.{Counts}
+use Rattle.check_report.specs.declared.verdict.VerdictCounts.{VerdictCounts}
 use Rattle.check_report.specs.declared.verdict.Judgement.{Judgement}
 use Rattle.check_report.specs.declared.verdict.Verdict.{Verdict}
 use Rattle.check_report.specs.declared.verdict.Verdict.TheVariants as verdict
@@ -9,14 +9,14 @@ use Rattle.check_report.specs.Verdicts.{counted_with, counts_of, judgement_of, t
 
 -- a verdict more
 
-total-verdict : (v : Verdict) (counts : Counts) → total (with_verdict v counts) ≡ total counts + 1
+total-verdict : (v : Verdict) (counts : VerdictCounts) → total (with_verdict v counts) ≡ total counts + 1
 total-verdict verdict.Same counts = omega arith
 total-verdict verdict.Differs counts = omega arith
 total-verdict verdict.Unanswered counts = omega arith
 total-verdict verdict.LeftOut counts = omega arith
 total-verdict verdict.New counts = omega arith
 
-errors-verdict : (v : Verdict) (counts : Counts) → (with_verdict v counts).errors ≡ counts.errors
+errors-verdict : (v : Verdict) (counts : VerdictCounts) → (with_verdict v counts).errors ≡ counts.errors
 errors-verdict verdict.Same counts = refl
 errors-verdict verdict.Differs counts = refl
 errors-verdict verdict.Unanswered counts = refl
@@ -25,20 +25,20 @@ errors-verdict verdict.New counts = refl
 
 -- an error more, or none
 
-pub total-error : (error : Bool) (counts : Counts) → total (with_error error counts) ≡ total counts
+pub total-error : (error : Bool) (counts : VerdictCounts) → total (with_error error counts) ≡ total counts
 total-error false counts = refl
 total-error true counts = refl
 
-errors-error : (error : Bool) (counts : Counts) → (with_error error counts).errors ≤ counts.errors + 1
+errors-error : (error : Bool) (counts : VerdictCounts) → (with_error error counts).errors ≤ counts.errors + 1
 errors-error false counts = omega arith
 errors-error true counts = omega arith
 
 -- both
 
-pub total-with : (one : Judgement) (counts : Counts) → total (counted_with one counts) ≡ total counts + 1
+pub total-with : (one : Judgement) (counts : VerdictCounts) → total (counted_with one counts) ≡ total counts + 1
 total-with one counts = total-verdict one.verdict (with_error one.error counts) ∙ ap (λ n. n + 1) (total-error one.error counts)
 
-pub errors-with : (one : Judgement) (counts : Counts) → counts.errors ≤ total counts → (counted_with one counts).errors ≤ total (counted_with one counts)
+pub errors-with : (one : Judgement) (counts : VerdictCounts) → counts.errors ≤ total counts → (counted_with one counts).errors ≤ total (counted_with one counts)
 errors-with one counts h = omega (arith, errors-verdict one.verdict (with_error one.error counts), errors-error one.error counts, total-with one counts, h)
 
 pub total-of : (cases : List Case) → total (counts_of (judgements_of cases)) ≡ length cases

@@ -8,7 +8,7 @@ use Rattle.sheet_json.specs.Sheets.{telling_line}
 use Rattle.sheet_json.specs.Tellings.{CheckReported, Telling}
 use Rattle.sheet_json.specs.Tellings as reported
 use Rattle.sheet_json.specs.declared.checks.Took.{Took}
-use Rattle.check_report.specs.declared.verdict.Counts.{Counts}
+use Rattle.check_report.specs.declared.verdict.VerdictCounts.{VerdictCounts}
 use Rattle.check_report.specs.declared.verdict.Verdict.{Verdict}
 use Rattle.check_report.specs.declared.verdict.Verdict.TheVariants as verdict
 
@@ -24,7 +24,7 @@ check_reported field came lost verdict.New = reported.new (unfolded field.input)
 abbrev pub checked_reported : Field → Option Answer → Option Reason → Verdict → Option Took → Telling
 checked_reported field came lost v took = reported.checked field.id field.session took (check_reported field came lost v)
 
-abbrev pub counts_reported : Counts → Telling
+abbrev pub counts_reported : VerdictCounts → Telling
 counts_reported counts = reported.compared counts.same counts.differ counts.unanswered counts.left_out counts.errors counts.new
 
 -- what stands first
@@ -32,5 +32,5 @@ abbrev pub json_head : List ℕ
 json_head = telling_line reported.hello
 
 -- what stands last: the counts, and that the check came to its end
-abbrev pub json_tail : Counts → List ℕ
+abbrev pub json_tail : VerdictCounts → List ℕ
 json_tail counts = telling_line (counts_reported counts) ++ telling_line reported.end

@@ -12,7 +12,7 @@ use Rattle.sheet_json.specs.Sheets.{telling_line, tellings_text}
 use Rattle.sheet_json.specs.Tellings.{Telling}
 use Rattle.sheet_json.specs.Tellings as reported
 use Rattle.sheet_json.specs.declared.checks.Took.{Took}
-use Rattle.check_report.specs.declared.report.Format.TheVariants as format
+use Rattle.check_report.specs.declared.report.ReportFormat.TheVariants as format
 use Rattle.check_report.specs.declared.hunks.Hunk.{Hunk}
 use Rattle.check_report.specs.Brief.{brief_text}
 use Rattle.check_report.specs.Hunks.{hunk_of, lines_added, some_lines, lines_removed, tail_start}

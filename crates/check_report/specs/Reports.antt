@@ -5,11 +5,11 @@ use Rattle.block_tree.specs.declared.reason.Reason.{Reason}
 use Rattle.worksheet.specs.declared.field.Answer.{Answer}
 use Rattle.worksheet.specs.declared.field.Field.{Field}
 use Rattle.check_report.specs.declared.cases.Case as code
-use Rattle.check_report.specs.declared.report.Format.{Format}
-use Rattle.check_report.specs.declared.report.Format.TheVariants as format
+use Rattle.check_report.specs.declared.report.ReportFormat.{ReportFormat}
+use Rattle.check_report.specs.declared.report.ReportFormat.TheVariants as format
 use Rattle.check_report.specs.declared.report.ReportFault.{ReportFault}
 use Rattle.check_report.specs.declared.report.ReportFault.TheVariants as fault
-use Rattle.check_report.specs.declared.verdict.Counts.{Counts}
+use Rattle.check_report.specs.declared.verdict.VerdictCounts.{VerdictCounts}
 use Rattle.check_report.specs.declared.verdict.Judgement.{Judgement}
 use Rattle.check_report.specs.declared.verdict.Verdict.{Verdict}
 use Rattle.check_report.specs.declared.verdict.Verdict.TheVariants as verdict
@@ -52,7 +52,7 @@ abbrev pub telling_of : Case → Telling
 telling_of c = checked_reported c.field c.came c.lost c.verdict c.took
 
 -- what stands first
-abbrev pub opening_text : Format → List ℕ
+abbrev pub opening_text : ReportFormat → List ℕ
 opening_text format.Text = []
 opening_text format.Whole = []
 opening_text format.Tap = version_line
@@ -61,7 +61,7 @@ opening_text format.Json = json_head
 opening_text format.Accepting = []
 
 -- what is written of a case, of which this is the number
-abbrev pub case_text : Format → ℕ → Case → List ℕ
+abbrev pub case_text : ReportFormat → ℕ → Case → List ℕ
 case_text format.Text number c = verdict_text c.field c.came c.lost c.verdict
 case_text format.Whole number c = whole_text c.field c.came c.lost c.verdict
 case_text format.Tap number c = tap_point number (point_of c)
@@ -70,12 +70,12 @@ case_text format.Json number c = telling_line (telling_of c)
 case_text format.Accepting number c = acceptance_text c.field c.came c.lost c.verdict
 
 -- the same of cases, one after another, of which the first has this number
-abbrev pub cases_text : Format → ℕ → List Case → List ℕ
+abbrev pub cases_text : ReportFormat → ℕ → List Case → List ℕ
 cases_text F number [] = []
 cases_text F number (c ∷ cases) = case_text F number c ++ cases_text F (number + 1) cases
 
 -- what stands last
-abbrev pub closing_text : Format → Counts → List ℕ
+abbrev pub closing_text : ReportFormat → VerdictCounts → List ℕ
 closing_text format.Text counts = counts_text counts
 closing_text format.Whole counts = counts_text counts
 closing_text format.Tap counts = plan_line (total counts)
@@ -84,11 +84,11 @@ closing_text format.Json counts = json_tail counts
 closing_text format.Accepting counts = accepted_counts_text counts
 
 -- a report up to here
-abbrev pub report_front : Format → List Case → List ℕ
+abbrev pub report_front : ReportFormat → List Case → List ℕ
 report_front F cases = opening_text F ++ cases_text F 1 cases
 
 -- a whole report
-abbrev pub report_text : Format → List Case → List ℕ
+abbrev pub report_text : ReportFormat → List Case → List ℕ
 report_text F cases = report_front F cases ++ closing_text F (counts_of (judgements_of cases))
 
 abbrev pub is_written_in_words : Verdict → Bool
@@ -99,7 +99,7 @@ is_written_in_words verdict.LeftOut = false
 is_written_in_words verdict.New = true
 
 -- In words a field is written where an output differs, is new or didn't come, and in the formats that programs read always.
-abbrev pub is_written : Format → Verdict → Bool
+abbrev pub is_written : ReportFormat → Verdict → Bool
 is_written format.Text v = is_written_in_words v
 is_written format.Whole v = is_written_in_words v
 is_written format.Tap v = true

@@ -4,8 +4,8 @@ use Rattle.std.specs.Str.{bytes_eq}
 use Rattle.worksheet.specs.Names.{is_name}
 use Rattle.check_report.specs.declared.chosen.Chosen.{Chosen}
 use Rattle.check_report.specs.declared.chosen.Ids.{Ids}
-use Rattle.check_report.specs.declared.report.Format.{Format}
-use Rattle.check_report.specs.declared.report.Format.TheVariants as format
+use Rattle.check_report.specs.declared.report.ReportFormat.{ReportFormat}
+use Rattle.check_report.specs.declared.report.ReportFormat.TheVariants as format
 use Rattle.check_report.specs.declared.request.FieldWords.{FieldWords}
 use Rattle.check_report.specs.declared.request.ReportWords.{ReportWords}
 use Rattle.check_report.specs.declared.request.Request.{Request}
@@ -14,27 +14,27 @@ use Rattle.check_report.specs.declared.request.RequestFault.TheVariants as fault
 use Rattle.check_report.specs.IdLists.{ids_named}
 
 -- the format of this name
-abbrev pub report_named : List ℕ → Option Format
+abbrev pub report_named : List ℕ → Option ReportFormat
 report_named name = if bytes_eq name (codes "text") then Some format.Text
     else (if bytes_eq name (codes "tap") then Some format.Tap
     else (if bytes_eq name (codes "junit") then Some format.Junit
     else (if bytes_eq name (codes "json") then Some format.Json else None)))
 
 -- the format of a name, where it has one
-abbrev pub named_or_none : Option Format → Result Format RequestFault
+abbrev pub named_or_none : Option ReportFormat → Result ReportFormat RequestFault
 named_or_none None = Err fault.Format
 named_or_none (Some named) = Ok named
 
 -- The format that is asked for, by whether lines of JSON are, and by the name of a format: in words, where neither is. Both at once are
 -- refused.
-abbrev pub format_asked : Bool → Option (List ℕ) → Result Format RequestFault
+abbrev pub format_asked : Bool → Option (List ℕ) → Result ReportFormat RequestFault
 format_asked false None = Ok format.Text
 format_asked true None = Ok format.Json
 format_asked false (Some name) = named_or_none (report_named name)
 format_asked true (Some name) = Err fault.Both
 
 -- answers that differ are accepted in words alone
-abbrev pub accepting : Format → Option Format
+abbrev pub accepting : ReportFormat → Option ReportFormat
 accepting format.Text = Some format.Accepting
 accepting format.Whole = None
 accepting format.Tap = None
@@ -43,7 +43,7 @@ accepting format.Json = None
 accepting format.Accepting = Some format.Accepting
 
 -- and whole outputs are written in words alone
-abbrev pub in_whole : Format → Option Format
+abbrev pub in_whole : ReportFormat → Option ReportFormat
 in_whole format.Text = Some format.Whole
 in_whole format.Whole = Some format.Whole
 in_whole format.Tap = None
@@ -66,19 +66,19 @@ abbrev pub report_view : ReportWords → ReportView
 report_view words = report_words words.accept words.whole words.json (option_map (λ text. text.now) words.format)
 
 -- The report that is asked for: in a format, and whether answers that differ are accepted, or outputs are whole. Both at once are refused.
-abbrev pub report_asked : Bool → Bool → Format → Option Format
+abbrev pub report_asked : Bool → Bool → ReportFormat → Option ReportFormat
 report_asked false false format = Some format
 report_asked true false format = accepting format
 report_asked false true format = in_whole format
 report_asked true true format = None
 
 -- a format is asked for, and this is the report
-abbrev pub AsksReport : ReportView → Format → Type 0
-AsksReport words report = (named : Format) × (format_asked words.json words.format ≡ Ok named) × (report_asked words.accept words.whole named ≡ Some report)
+abbrev pub AsksReport : ReportView → ReportFormat → Type 0
+AsksReport words report = (named : ReportFormat) × (format_asked words.json words.format ≡ Ok named) × (report_asked words.accept words.whole named ≡ Some report)
 
 -- a format is asked for that has no such report, by whether outputs are to be whole
 abbrev pub AsksNoReport : Bool → ReportView → Type 0
-AsksNoReport whole words = (words.whole ≡ whole) × ((named : Format) × (format_asked words.json words.format ≡ Ok named) × (report_asked words.accept words.whole named ≡ None))
+AsksNoReport whole words = (words.whole ≡ whole) × ((named : ReportFormat) × (format_asked words.json words.format ≡ Ok named) × (report_asked words.accept words.whole named ≡ None))
 
 -- the session that is asked for, where one is, and it can be the name of one
 abbrev pub session_asked : Option (List ℕ) → Option (Option (List ℕ))

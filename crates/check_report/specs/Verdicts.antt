@@ -1,7 +1,7 @@
 -- What another evaluation comes to, and how such are counted.
 use Rattle.std.specs.Prelude.{◌≡◌, ◌+◌, ℕ, Bool, true, false, List, [], ◌∷◌, Option, Some, None}
 use Rattle.worksheet.specs.declared.field.Answer.{Answer}
-use Rattle.check_report.specs.declared.verdict.Counts.{Counts}
+use Rattle.check_report.specs.declared.verdict.VerdictCounts.{VerdictCounts}
 use Rattle.check_report.specs.declared.verdict.Judgement.{Judgement}
 use Rattle.check_report.specs.declared.verdict.Verdict.{Verdict}
 use Rattle.check_report.specs.declared.verdict.Verdict.TheVariants as verdict
@@ -20,7 +20,7 @@ abbrev pub judgement_of : Option Answer → Verdict → Judgement
 judgement_of came v = record { verdict = v; error = brings_error came }
 
 -- one more that came to this
-abbrev pub with_verdict : Verdict → Counts → Counts
+abbrev pub with_verdict : Verdict → VerdictCounts → VerdictCounts
 with_verdict verdict.Same counts = record counts { same = counts.same + 1 }
 with_verdict verdict.Differs counts = record counts { differ = counts.differ + 1 }
 with_verdict verdict.Unanswered counts = record counts { unanswered = counts.unanswered + 1 }
@@ -28,19 +28,19 @@ with_verdict verdict.LeftOut counts = record counts { left_out = counts.left_out
 with_verdict verdict.New counts = record counts { new = counts.new + 1 }
 
 -- one more error, where it is one
-abbrev pub with_error : Bool → Counts → Counts
+abbrev pub with_error : Bool → VerdictCounts → VerdictCounts
 with_error false counts = counts
 with_error true counts = record counts { errors = counts.errors + 1 }
 
 -- one more of these
-abbrev pub counted_with : Judgement → Counts → Counts
+abbrev pub counted_with : Judgement → VerdictCounts → VerdictCounts
 counted_with j counts = with_verdict j.verdict (with_error j.error counts)
 
 -- how many there are of each
-abbrev pub counts_of : List Judgement → Counts
+abbrev pub counts_of : List Judgement → VerdictCounts
 counts_of [] = record { same = 0; differ = 0; unanswered = 0; left_out = 0; errors = 0; new = 0 }
 counts_of (one ∷ others) = counted_with one (counts_of others)
 
 -- of how many evaluations they are
-abbrev pub total : Counts → ℕ
+abbrev pub total : VerdictCounts → ℕ
 total counts = counts.same + counts.differ + counts.unanswered + counts.left_out + counts.new

@@ -9,7 +9,7 @@ use Rattle.worksheet.specs.declared.field.Answer.{Answer}
 use Rattle.worksheet.specs.declared.field.Field.{Field}
 use Rattle.sheet_text.specs.Texts.{input_line, number_line}
 use Rattle.check_report.specs.declared.hunks.Hunk.{Hunk}
-use Rattle.check_report.specs.declared.verdict.Counts.{Counts}
+use Rattle.check_report.specs.declared.verdict.VerdictCounts.{VerdictCounts}
 use Rattle.check_report.specs.declared.verdict.Verdict.{Verdict}
 use Rattle.check_report.specs.declared.verdict.Verdict.TheVariants as verdict
 use Rattle.check_report.specs.Brief.{brief_lines}
@@ -94,16 +94,16 @@ abbrev pub new_part : ℕ → List ℕ
 new_part n = if nat_eq n 0 then [] else codes " new " ++ decimal n
 
 -- how many were compared, by what they came to
-abbrev pub compared_part : Counts → List ℕ
+abbrev pub compared_part : VerdictCounts → List ℕ
 compared_part counts = codes "same " ++ decimal counts.same ++ codes " differ " ++ decimal counts.differ ++ codes " unanswered " ++ decimal counts.unanswered
 
 -- the same, where those that differ were accepted
-abbrev pub accepted_part : Counts → List ℕ
+abbrev pub accepted_part : VerdictCounts → List ℕ
 accepted_part counts = codes "same " ++ decimal counts.same ++ codes " accepted " ++ decimal counts.differ ++ codes " unanswered " ++ decimal counts.unanswered
 
 -- the last line
-abbrev pub counts_text : Counts → List ℕ
+abbrev pub counts_text : VerdictCounts → List ℕ
 counts_text counts = compared_part counts ++ left_out_part counts.left_out ++ errors_part counts.errors ++ new_part counts.new ++ 10 ∷ []
 
-abbrev pub accepted_counts_text : Counts → List ℕ
+abbrev pub accepted_counts_text : VerdictCounts → List ℕ
 accepted_counts_text counts = accepted_part counts ++ left_out_part counts.left_out ++ errors_part counts.errors ++ new_part counts.new ++ 10 ∷ []

@@ -9,7 +9,7 @@ ghost use Rattle.check_report.specs.Reports.{case_in, telling_of};
 ghost use Rattle.check_report.specs.inside.Closing.{first_part, second_part};
 
 use crate::cases::Case;
-use crate::verdict::{Counts, Verdict};
+use crate::verdict::{Verdict, VerdictCounts};
 use crate::writing::{write_bytes, write_id};
 use serde_json::Value;
 use sheet_json::{
@@ -59,7 +59,7 @@ pub(crate) fn write_hello<W: Write>(out: &mut W) -> Result<(), WriteFault>
 
 /// Writes how many differ, how many are errors, and how many were left out.
 #[tactic(auto, using(crate::proofs::Written::steps))]
-fn write_first_part<W: Write>(counts: Counts, out: &mut W) -> Result<(), WriteFault>
+fn write_first_part<W: Write>(counts: VerdictCounts, out: &mut W) -> Result<(), WriteFault>
     ensures { OnOk result (Appends (W.contents out.old) (W.contents out.new) (first_part counts)) }
 {
     write_bytes(b"{\"differ\":", out)?;
@@ -73,7 +73,7 @@ fn write_first_part<W: Write>(counts: Counts, out: &mut W) -> Result<(), WriteFa
 
 /// Writes the other counts, how many answers are new first, and what stands last.
 #[tactic(auto, using(crate::proofs::Written::steps))]
-fn write_second_part<W: Write>(counts: Counts, out: &mut W) -> Result<(), WriteFault>
+fn write_second_part<W: Write>(counts: VerdictCounts, out: &mut W) -> Result<(), WriteFault>
     ensures { OnOk result (Appends (W.contents out.old) (W.contents out.new) (second_part counts)) }
 {
     write_bytes(b",\"new\":", out)?;
@@ -87,7 +87,7 @@ fn write_second_part<W: Write>(counts: Counts, out: &mut W) -> Result<(), WriteF
 }
 
 /// Writes the counts, and what stands last.
-pub(crate) fn write_end<W: Write>(counts: Counts, out: &mut W) -> Result<(), WriteFault>
+pub(crate) fn write_end<W: Write>(counts: VerdictCounts, out: &mut W) -> Result<(), WriteFault>
     ensures { OnOk result (Appends (W.contents out.old) (W.contents out.new) (json_tail counts)) }
 {
     write_first_part(counts, out)?;

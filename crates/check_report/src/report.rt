@@ -12,7 +12,7 @@ use crate::cases::Case;
 use crate::junit::{write_case, write_head, write_tail};
 use crate::objects::{case_in_memory, write_end, write_hello};
 use crate::tap::{write_plan, write_point, write_version};
-use crate::verdict::{Counts, Verdict};
+use crate::verdict::{Verdict, VerdictCounts};
 use crate::wording::{report_accepting, report_whole, report_words};
 use crate::words::{verdict_in_memory, write_accepted_counts, write_counts};
 use crate::writing::write_and_flush;
@@ -22,7 +22,7 @@ use std::io::Write;
 
 /// How a report is written.
 #[derive(Clone, Copy, Debug, PartialEq, Eq)]
-pub enum Format {
+pub enum ReportFormat {
     /// In words, which people read: what differs, and the counts.
     Text,
     /// The same, with both outputs whole where one differs.
@@ -47,37 +47,41 @@ pub enum ReportFault {
 }
 
 /// Writes what stands first in a report, and flushes it.
-pub fn open_report<W: Write>(format: Format, writer: &mut W) -> Result<(), WriteFault>
+pub fn open_report<W: Write>(format: ReportFormat, writer: &mut W) -> Result<(), WriteFault>
     ensures { OnOk result (Appends (W.contents writer.old) (W.contents writer.new)
         (opening_text format)) }
 {
     match format {
-        Format::Text | Format::Whole | Format::Accepting => return Ok(()),
-        Format::Tap => write_version(writer)?,
-        Format::Junit => write_head(writer)?,
-        Format::Json => write_hello(writer)?,
+        ReportFormat::Text | ReportFormat::Whole | ReportFormat::Accepting => return Ok(()),
+        ReportFormat::Tap => write_version(writer)?,
+        ReportFormat::Junit => write_head(writer)?,
+        ReportFormat::Json => write_hello(writer)?,
     }
     writer.flush().map_err(|_| WriteFault)
 }
 
 /// Writes what stands last in a report.
-fn write_closing<W: Write>(format: Format, counts: Counts, writer: &mut W) -> Result<(), WriteFault>
+fn write_closing<W: Write>(
+    format: ReportFormat,
+    counts: VerdictCounts,
+    writer: &mut W,
+) -> Result<(), WriteFault>
     ensures { OnOk result (Appends (W.contents writer.old) (W.contents writer.new)
         (closing_text format counts)) }
 {
     match format {
-        Format::Text | Format::Whole => write_counts(counts, writer),
-        Format::Tap => write_plan(counts.total(), writer),
-        Format::Junit => write_tail(writer),
-        Format::Json => write_end(counts, writer),
-        Format::Accepting => write_accepted_counts(counts, writer),
+        ReportFormat::Text | ReportFormat::Whole => write_counts(counts, writer),
+        ReportFormat::Tap => write_plan(counts.total(), writer),
+        ReportFormat::Junit => write_tail(writer),
+        ReportFormat::Json => write_end(counts, writer),
+        ReportFormat::Accepting => write_accepted_counts(counts, writer),
     }
 }
 
 /// Writes what stands last in a report, and flushes it.
 pub fn close_report<W: Write>(
-    format: Format,
-    counts: Counts,
+    format: ReportFormat,
+    counts: VerdictCounts,
     writer: &mut W,
 ) -> Result<(), WriteFault>
     ensures { OnOk result (Appends (W.contents writer.old) (W.contents writer.new)
@@ -99,12 +103,14 @@ fn is_written_in_words(verdict: Verdict) -> bool
 }
 
 /// Whether anything is written of a field that came to this.
-pub fn is_written(format: Format, verdict: Verdict) -> bool
+pub fn is_written(format: ReportFormat, verdict: Verdict) -> bool
     ensures { result ≡ is_written_in format verdict }
 {
     match format {
-        Format::Text | Format::Whole | Format::Accepting => is_written_in_words(verdict),
-        Format::Tap | Format::Junit | Format::Json => true,
+        ReportFormat::Text | ReportFormat::Whole | ReportFormat::Accepting => is_written_in_words(
+            verdict,
+        ),
+        ReportFormat::Tap | ReportFormat::Junit | ReportFormat::Json => true,
     }
 }
 
@@ -192,7 +198,7 @@ fn report_json<W: Write>(alloc: Global, case: &Case<'_>, writer: &mut W) -> Resu
 /// Tells what a field came to, which is a case, and flushes it.
 pub fn report_case<W: Write>(
     alloc: Global,
-    format: Format,
+    format: ReportFormat,
     case: &Case<'_>,
     writer: &mut W,
 ) -> Result<(), ReportFault>
@@ -201,11 +207,11 @@ pub fn report_case<W: Write>(
     ensures err { IfErr result (Unreported (W.contents writer.old) (W.contents writer.new)) }
 {
     match format {
-        Format::Text => report_words(alloc, case, writer),
-        Format::Whole => report_whole(alloc, case, writer),
-        Format::Tap => report_point(alloc, case, writer),
-        Format::Junit => report_junit(alloc, case, writer),
-        Format::Json => report_json(alloc, case, writer),
-        Format::Accepting => report_accepting(alloc, case, writer),
+        ReportFormat::Text => report_words(alloc, case, writer),
+        ReportFormat::Whole => report_whole(alloc, case, writer),
+        ReportFormat::Tap => report_point(alloc, case, writer),
+        ReportFormat::Junit => report_junit(alloc, case, writer),
+        ReportFormat::Json => report_json(alloc, case, writer),
+        ReportFormat::Accepting => report_accepting(alloc, case, writer),
     }
 }

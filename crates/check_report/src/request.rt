@@ -4,7 +4,7 @@ ghost use Rattle.check_report.specs.Requests as asked;
 
 use crate::chosen::{Chosen, Ids};
 use crate::ids::read_ids;
-use crate::report::Format;
+use crate::report::ReportFormat;
 use block_tree::Sequence;
 use std::alloc::Global;
 use worksheet::Name;
@@ -15,7 +15,7 @@ pub struct Request {
     pub chosen: Chosen,
     /// How many seconds a field may take, where there is a limit (`docs/use/CHECK.md` says from when on).
     pub limit: Option<u32>,
-    pub format: Format,
+    pub format: ReportFormat,
 }
 
 /// Why words ask for no check.
@@ -38,20 +38,20 @@ pub enum RequestFault {
 }
 
 /// The format of this name: `text`, `tap`, `junit` or `json`. None where there is none of it.
-fn format_named(name: &str) -> Option<Format>
+fn format_named(name: &str) -> Option<ReportFormat>
     ensures { result ≡ asked.report_named name.now }
 {
     match name {
-        "text" => Some(Format::Text),
-        "tap" => Some(Format::Tap),
-        "junit" => Some(Format::Junit),
-        "json" => Some(Format::Json),
+        "text" => Some(ReportFormat::Text),
+        "tap" => Some(ReportFormat::Tap),
+        "junit" => Some(ReportFormat::Junit),
+        "json" => Some(ReportFormat::Json),
         _ => None,
     }
 }
 
 /// The format with a name.
-fn read_named(name: &str) -> Result<Format, RequestFault>
+fn read_named(name: &str) -> Result<ReportFormat, RequestFault>
     ensures { result ≡ asked.named_or_none (asked.report_named name.now) }
 {
     match format_named(name) {
@@ -61,46 +61,47 @@ fn read_named(name: &str) -> Result<Format, RequestFault>
 }
 
 /// The format that is asked for, by whether lines of JSON are, and by its name.
-fn read_format(json: bool, name: Option<&str>) -> Result<Format, RequestFault>
+fn read_format(json: bool, name: Option<&str>) -> Result<ReportFormat, RequestFault>
     ensures { result ≡ asked.format_asked json (option_map (λ text. text.now) name.entry) }
 {
     match (json, name) {
-        (false, None) => Ok(Format::Text),
-        (true, None) => Ok(Format::Json),
+        (false, None) => Ok(ReportFormat::Text),
+        (true, None) => Ok(ReportFormat::Json),
         (false, Some(name)) => read_named(name),
         (true, Some(_)) => Err(RequestFault::Both),
     }
 }
 
 /// The report in a format, where answers that differ are accepted. None where that format has none.
-fn accepting(format: Format) -> Option<Format>
+fn accepting(format: ReportFormat) -> Option<ReportFormat>
     ensures { result ≡ asked.accepting format }
 {
     match format {
-        Format::Text | Format::Accepting => Some(Format::Accepting),
-        Format::Whole | Format::Tap | Format::Junit | Format::Json => None,
+        ReportFormat::Text | ReportFormat::Accepting => Some(ReportFormat::Accepting),
+        ReportFormat::Whole | ReportFormat::Tap | ReportFormat::Junit | ReportFormat::Json => None,
     }
 }
 
 /// The report in a format, with whole outputs. None where that format has none.
-fn in_whole(format: Format) -> Option<Format>
+fn in_whole(format: ReportFormat) -> Option<ReportFormat>
     ensures { result ≡ asked.in_whole format }
 {
     match format {
-        Format::Text | Format::Whole => Some(Format::Whole),
-        Format::Tap | Format::Junit | Format::Json | Format::Accepting => None,
+        ReportFormat::Text | ReportFormat::Whole => Some(ReportFormat::Whole),
+        ReportFormat::Tap | ReportFormat::Junit | ReportFormat::Json | ReportFormat::Accepting =>
+            None,
     }
 }
 
 /// The same, where nothing is accepted.
-fn in_whole_alone(format: Format, accept: bool) -> Option<Format>
+fn in_whole_alone(format: ReportFormat, accept: bool) -> Option<ReportFormat>
     ensures { result ≡ asked.report_asked accept true format }
 {
     if accept { None } else { in_whole(format) }
 }
 
 /// The report that is asked for.
-fn read_report(words: ReportWords<'_>) -> Result<Format, RequestFault>
+fn read_report(words: ReportWords<'_>) -> Result<ReportFormat, RequestFault>
     ensures ok { IfOk result (asked.AsksReport (asked.report_view words.entry)) }
     ensures err { IfErr result (asked.AsksNone (asked.report_view words.entry)
         (asked.field_words None None None false)) }

@@ -31,7 +31,7 @@ pub struct Judgement {
 
 /// How many evaluations came to what: one for each field that is checked, so 10,000 at most.
 #[derive(Clone, Copy, Debug, PartialEq, Eq)]
-pub struct Counts {
+pub struct VerdictCounts {
     /// Those whose output is the one that the field shows.
     pub same: u32,
     /// Those whose output is another.
@@ -46,9 +46,9 @@ pub struct Counts {
     pub new: u32,
 }
 
-impl Counts {
+impl VerdictCounts {
     /// Of no evaluation.
-    pub fn none() -> Counts
+    pub fn none() -> VerdictCounts
         ensures { result ≡ record {
           same = 0;
           differ = 0;
@@ -58,7 +58,7 @@ impl Counts {
           new = 0;
         } }
     {
-        Counts {
+        VerdictCounts {
             same: 0,
             differ: 0,
             unanswered: 0,
@@ -69,7 +69,7 @@ impl Counts {
     }
 
     /// With one more error, where it is one.
-    fn with_error(self, error: bool) -> Counts
+    fn with_error(self, error: bool) -> VerdictCounts
         requires { self.errors < 2 ^ 31 }
         ensures { result ≡ verdicts.with_error error self }
     {
@@ -81,7 +81,7 @@ impl Counts {
     }
 
     /// With one more that came to this.
-    fn with_verdict(self, verdict: Verdict) -> Counts
+    fn with_verdict(self, verdict: Verdict) -> VerdictCounts
         requires { total self < 2 ^ 31 }
         ensures { result ≡ verdicts.with_verdict verdict self }
     {
@@ -98,7 +98,7 @@ impl Counts {
 
     /// With one more.
     #[tactic(auto, using(crate::proofs::Totals::counting))]
-    pub fn with(self, judgement: Judgement) -> Counts
+    pub fn with(self, judgement: Judgement) -> VerdictCounts
         requires few { total self < 2 ^ 31 }
         requires errors { self.errors ≤ total self }
         ensures counted { result ≡ counted_with judgement self }

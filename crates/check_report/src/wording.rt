@@ -10,7 +10,7 @@ use crate::hunks::{Hunk, find_hunk};
 use crate::report::ReportFault;
 use crate::verdict::Verdict;
 use crate::words::{
-    Outputs, acceptance_in_memory, outputs_in_memory, write_addition, write_change,
+    OutputPair, acceptance_in_memory, outputs_in_memory, write_addition, write_change,
     write_difference,
 };
 use crate::writing::write_and_flush;
@@ -59,7 +59,7 @@ fn report_difference<W: Write>(
 /// Writes in words where an output differs, and flushes it.
 fn write_in_part<W: Write>(
     field: &Field,
-    both: &Outputs,
+    both: &OutputPair,
     hunk: Hunk,
     writer: &mut W,
 ) -> Result<(), WriteFault>

@@ -6,7 +6,7 @@ ghost use Rattle.check_report.specs.Words as printed;
 
 use crate::brief::brief_in_memory;
 use crate::hunks::{Hunk, find_hunk, write_hunk};
-use crate::verdict::{Counts, Verdict};
+use crate::verdict::{Verdict, VerdictCounts};
 use crate::writing::write_bytes;
 use block_tree::Reason;
 use bstr::ByteSlice;
@@ -17,7 +17,7 @@ use worksheet::{Answer, Field};
 
 /// The two outputs of a difference in memory: the one that a field shows, and the one that came.
 #[derive(Drop)]
-pub(crate) struct Outputs {
+pub(crate) struct OutputPair {
     pub(crate) shown: Vec<u8>,
     pub(crate) came: Vec<u8>,
 }
@@ -28,7 +28,7 @@ pub(crate) fn outputs_in_memory(
     field: &Field,
     came: &Option<Answer>,
     lost: Option<Reason>,
-) -> Option<Outputs>
+) -> Option<OutputPair>
     ensures shown { IfSome result (λ both. both.shown.items ≡ brief_lines field.now.answer field.now.lost) }
     ensures came { IfSome result (λ both. both.came.items ≡ brief_lines came.now lost) }
 {
@@ -36,7 +36,7 @@ pub(crate) fn outputs_in_memory(
         return Option::None;
     };
     match brief_in_memory(alloc, came, lost) {
-        Some(came) => Some(Outputs { shown, came }),
+        Some(came) => Some(OutputPair { shown, came }),
         None => Option::None,
     }
 }
@@ -102,7 +102,7 @@ fn write_changed<W: Write>(
 /// Writes the lines of a field, and how its output became the one that came, by their hunk.
 pub(crate) fn write_change<W: Write>(
     field: &Field,
-    both: &Outputs,
+    both: &OutputPair,
     hunk: Hunk,
     writer: &mut W,
 ) -> Result<(), WriteFault>
@@ -293,11 +293,11 @@ fn write_new<W: Write>(new: u32, writer: &mut W) -> Result<(), WriteFault>
 }
 
 /// Writes how many were compared, by what they came to.
-fn write_compared<W: Write>(counts: Counts, writer: &mut W) -> Result<(), WriteFault>
+fn write_compared<W: Write>(counts: VerdictCounts, writer: &mut W) -> Result<(), WriteFault>
     ensures { OnOk result (Appends (W.contents writer.old) (W.contents writer.new)
         (printed.compared_part counts)) }
 {
-    let Counts {
+    let VerdictCounts {
         same,
         differ,
         unanswered,
@@ -313,11 +313,11 @@ fn write_compared<W: Write>(counts: Counts, writer: &mut W) -> Result<(), WriteF
 }
 
 /// Writes how many were compared, by what they came to, where those that differ were accepted.
-fn write_accepted_part<W: Write>(counts: Counts, writer: &mut W) -> Result<(), WriteFault>
+fn write_accepted_part<W: Write>(counts: VerdictCounts, writer: &mut W) -> Result<(), WriteFault>
     ensures { OnOk result (Appends (W.contents writer.old) (W.contents writer.new)
         (printed.accepted_part counts)) }
 {
-    let Counts {
+    let VerdictCounts {
         same,
         differ,
         unanswered,
@@ -335,7 +335,7 @@ fn write_accepted_part<W: Write>(counts: Counts, writer: &mut W) -> Result<(), W
 /// Writes the counts, where those that differ were accepted.
 #[tactic(auto, using(crate::proofs::Written::steps))]
 pub(crate) fn write_accepted_counts<W: Write>(
-    counts: Counts,
+    counts: VerdictCounts,
     writer: &mut W,
 ) -> Result<(), WriteFault>
     ensures { OnOk result (Appends (W.contents writer.old) (W.contents writer.new)
@@ -351,7 +351,10 @@ pub(crate) fn write_accepted_counts<W: Write>(
 
 /// Writes the counts.
 #[tactic(auto, using(crate::proofs::Written::steps))]
-pub(crate) fn write_counts<W: Write>(counts: Counts, writer: &mut W) -> Result<(), WriteFault>
+pub(crate) fn write_counts<W: Write>(
+    counts: VerdictCounts,
+    writer: &mut W,
+) -> Result<(), WriteFault>
     ensures { OnOk result (Appends (W.contents writer.old) (W.contents writer.new)
         (printed.counts_text counts)) }
 {

@@ -24,8 +24,12 @@ pub enum Action {
     Lines(u64, Vec<Event>),
     /// These commands are taken as one group, all of them or none: one of each line from the one with this number on.
     Transaction(u64, Edits),
-    /// These commands are taken as one group: where the first word says so, up to the first that is refused, and else all of them, each with its own reply.
-    Edits(bool, Edits),
+    /// These commands are taken as one group, each with its own reply.
+    Edits {
+        /// Whether the group ends at the first that is refused. Else all of them are taken.
+        up_to: bool,
+        edits: Edits,
+    },
     /// This event is taken by itself: it is durable, its effect is carried out, and what it gave is printed; then what comes of that.
     Alone(Event),
     /// What this life has is received, and taken by itself.

@@ -304,7 +304,7 @@ impl<D: Disk, S: Sources, K: Sink, A: Agenda> Driver<D, S, K, A> {
             Action::Hear(seat, most) => and_again(self.hear(seat, most)),
             Action::Lines(first, events) => and_again(self.take_and_print(Some(first), events)),
             Action::Transaction(first, edits) => and_again(self.take_transaction(first, edits)),
-            Action::Edits(up_to, edits) => and_again(self.take_edits(up_to, edits)),
+            Action::Edits { up_to, edits } => and_again(self.take_edits(up_to, edits)),
             Action::Alone(event) => and_again(self.take_alone(event)),
             Action::Receive(seat) => and_again(self.receive(seat)),
             Action::Checkpoint(line) => and_again(self.rewrite(line)),

@@ -10,9 +10,11 @@ use Rattle.theorem.specs.Acts.{Act, Files, HasFirst, OpensAfterActs, OpensSo, Us
 use Rattle.theorem.specs.Acts as acts
 use Rattle.recovery.specs.Sheets.{IsSheetImage}
 use Rattle.worksheet.specs.Ops.{sheet_of}
-use Rattle.check_report.specs.declared.verdict.Counts.{Counts}
+use Rattle.check_report.specs.declared.verdict.VerdictCounts.{VerdictCounts}
 use Rattle.check_report.specs.Reports.{Case}
-use Rattle.sheet_check.specs.Accept.{Filing, ReportedAfter, EachReported, acceptance, accepted, filing}
+use Rattle.sheet_check.specs.Accept.{AcceptAnswer, Acceptance, Filing, ReportedAfter, EachReported, acceptance, accepted, filing}
+use Rattle.sheet_check.specs.Check.{Passage}
+use Rattle.sheet_check.specs.Evaluated.{OneByOne}
 use Rattle.sheet_check.specs.Kept.{IsAmong}
 use Rattle.sheet_check.specs.declared.named.CheckFault.{CheckFault}
 use Rattle.driver_visits.specs.Acceptances.{LeftByAcceptance, ReportedAcceptance, only_read, put_in}
@@ -41,19 +43,18 @@ reported_after x text put front (c ∷ before) one others all =
     subst (λ (l : List Case). ReportedAfter x text put l one) (append_assoc front (c ∷ []) before) (reported_after x text put (front ++ c ∷ []) before one others all.1)
 
 -- an acceptance leaves a disk that keeps the model
-kept-by : (held : Option (List ℕ) → DiskView → Type 0) (text : Option (List ℕ)) (disk back : DiskView) → IsTrue disk.keeps_model → (cases : List Case)
-    → LeftByAcceptance (acceptance held disk back) text cases → IsTrue back.keeps_model
-kept-by held text disk back model cases (only_read reads) = subst IsTrue (sym reads.same.keeps_model) model
-kept-by held text disk back model cases (put_in ops put f looks same more holds order) = subst IsTrue (sym same.keeps_model) (subst IsTrue (sym f.same.keeps_model) model)
+kept-by : {C : Type 0} (o : OneByOne C) (q : Passage C) (x : Acceptance) → IsTrue x.disk.keeps_model → (cases : List Case) → LeftByAcceptance o q x cases → IsTrue x.back.keeps_model
+kept-by o q x model cases (only_read reads) = subst IsTrue (sym reads.same.keeps_model) model
+kept-by o q x model cases (put_in ops put f looks same more holds order whole) = subst IsTrue (sym same.keeps_model) (subst IsTrue (sym f.same.keeps_model) model)
 
-module _ {D : Type 0} (held : Option (List ℕ) → DiskView → Type 0) (text : Option (List ℕ)) (disk back : DiskView) (opened : Result HostView (OpenFault D)) (hosts : HostsInTurn) (one : OneSheet) (model : IsTrue disk.keeps_model)
+module _ {C D : Type 0} (o : OneByOne C) (q : Passage C) (held : Option (List ℕ) → DiskView → Type 0) (disk back : DiskView) (opened : Result HostView (OpenFault D)) (hosts : HostsInTurn) (one : OneSheet) (model : IsTrue disk.keeps_model)
     (image : IsTrue back.keeps_model → IsImage back.history.now (bytes_on back)) (after : OpensAfterActs back opened) (e : EarlierUses disk) where
   opens_as : (acts : List Act) → IsTrue back.keeps_model → Uses disk.room e.image acts (bytes_on back) → OpensSo disk.room e.ops e.image (bytes_on back) acts opened
   opens_as acts kept came = after kept disk.room e.ops e.image acts e.allowed e.found came
 
   -- what was reported was on the disk
-  before-text : (ops put : List Op) (f : Files (bytes_on disk) disk ops put back) (before : List Case) (case : Case) → ReportedAfter (filing held ops f.now back) text put before case
-      → AnswersBeforeText e (filing held ops f.now back) text put before case
+  before-text : (ops put : List Op) (f : Files (bytes_on disk) disk ops put back) (before : List Case) (case : Case) → ReportedAfter (filing held ops f.now back) q.text put before case
+      → AnswersBeforeText e (filing held ops f.now back) q.text put before case
   before-text ops put f before case was =
       let first = accepted (before ++ case ∷ []) in
       record {
@@ -63,30 +64,31 @@ module _ {D : Type 0} (held : Option (List ℕ) → DiskView → Type 0) (text :
             (λ i among. subst (λ (l : List Op). HasFirst ops l first i) (sym was.split) (has_first ops first was.rest i among)) (was.since keeps)) crashed no_use);
       }
 
-  pub leaves_answers : (cases : List Case) → LeftByAcceptance (acceptance held disk back) text cases → LeavesAnswers (acceptance held disk back) text opened e cases
+  pub leaves_answers : (cases : List Case) → LeftByAcceptance o q (acceptance held disk back) cases → LeavesAnswers o q (acceptance held disk back) opened e cases
   leaves_answers cases (only_read reads) =
       let kept : IsTrue back.keeps_model = subst IsTrue (sym reads.same.keeps_model) model in
       as_it_was reads (opens_as e.acts kept (subst (λ (i : Image). Uses disk.room e.image e.acts i) (sym (reads.looks model).content) e.came))
-  leaves_answers cases (put_in ops put f looks same more holds order) =
+  leaves_answers cases (put_in ops put f looks same more holds order whole) =
       let now : IsTrue f.now.keeps_model = subst IsTrue (sym f.same.keeps_model) model in
       let kept : IsTrue back.keeps_model = subst IsTrue (sym same.keeps_model) now in
       let reported = accepted cases in
       let at_end = λ (keeps : IsTrue f.now.keeps_model). started (HasFirst ops put reported) back.history (holds keeps) in
-      with_answers ops put f looks more
+      with_answers ops put f looks more whole
       (λ crash crashed. left_with hosts one disk e (filed put []) crash (acts.filing disk back ops f f.now.history f.moments crashed no_use))
       (λ before case others split. before-text ops put f before case
-      (reported_after (filing held ops f.now back) text put [] before case others (subst (EachReported (filing held ops f.now back) text put []) split order)))
+      (reported_after (filing held ops f.now back) q.text put [] before case others (subst (EachReported (filing held ops f.now back) q.text put []) split order)))
       (λ crash crashed. left_with hosts one disk e (filed put reported) crash (acts.filing disk back ops f back.history at_end crashed no_use))
       (opens_as (e.acts ++ filed put reported ∷ []) kept
       (used_on disk.room e.image (bytes_on disk) (bytes_on back) e.acts (filed put reported ∷ []) e.came
       (acts.filing disk back ops f back.history at_end (crashed_now back.history (bytes_on back) (image kept)) no_use)))
 
-pub accepts_then_opens : {D : Type 0} (held : Option (List ℕ) → DiskView → Type 0) (text written : Option (List ℕ)) (disk back later : DiskView) (answer : Result Counts CheckFault) (opened : Result HostView (OpenFault D)) → HostsInTurn → OneSheet → IsTrue disk.keeps_model
-    → (IsTrue back.keeps_model → IsImage back.history.now (bytes_on back)) → OpensAfterActs back opened → SameDisk back later → InModel back (Looks back.history later.history)
-    → ReportedAcceptance (acceptance held disk back) text written answer → AcceptsThenOpens (acceptance held disk later) text written answer opened
-accepts_then_opens held text written disk back later answer opened hosts one model image after same looks reported = record {
-  back = back;
-  on = record { same = same; looks = looks (kept-by held text disk back model reported.cases reported.left) };
+pub accepts_then_opens : {C D : Type 0} (o : OneByOne C) (q : Passage C) (x : Acceptance) (nothing : Type 0) (later : DiskView) (answer : Result VerdictCounts CheckFault) (opened : Result HostView (OpenFault D)) → HostsInTurn → OneSheet → IsTrue x.disk.keeps_model
+    → (IsTrue x.back.keeps_model → IsImage x.back.history.now (bytes_on x.back)) → OpensAfterActs x.back opened → SameDisk x.back later → InModel x.back (Looks x.back.history later.history)
+    → AcceptAnswer o x q nothing answer → ReportedAcceptance o q x answer → AcceptsThenOpens o q (acceptance x.held x.disk later) nothing answer opened
+accepts_then_opens o q x nothing later answer opened hosts one model image after same looks answered reported = record {
+  back = x.back;
+  on = record { same = same; looks = looks (kept-by o q x model reported.cases reported.left) };
+  answered = answered;
   reported = reported;
-  leaves = λ e. leaves_answers held text disk back opened hosts one model image after e reported.cases reported.left;
+  leaves = λ e. leaves_answers o q x.held x.disk x.back opened hosts one model image after e reported.cases reported.left;
 }

@@ -1,4 +1,5 @@
 pub mod Accepting
+pub mod Copying
 pub mod FiledUses
 pub mod Leaving
 pub mod Parts

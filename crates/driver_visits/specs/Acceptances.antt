@@ -1,51 +1,54 @@
 -- What `check --accept` leaves of a worksheet's disk is an acceptance of the theorem, of the answers that its report has.
 -- (docs/trust/THEOREM.md; premise A7 in the README of crate `theorem`.)
 use Rattle.std.specs.Prelude.{◌≡◌, ◌⊎◌, ℕ, IsTrue, List, [], ◌∷◌, ◌++◌, Option, Result, Ok, Err}
+use Rattle.std.specs.List.{AllByRecursion}
 use Rattle.std.specs.Io.KnownBytes.{Appends}
 use Rattle.disk_model.specs.Disk.{DiskView, InModel, Leaves, Looks, SameDisk, bytes_on}
 use Rattle.worksheet.specs.declared.op.Op.{Op}
+use Rattle.worksheet.specs.Ops.{sheet_of}
 use Rattle.theorem.specs.Acts.{Files, HasFirst}
 use Rattle.offline_programs.specs.declared.fault.RunFault.TheVariants as fault
 use Rattle.check_report.specs.declared.chosen.Chosen.{Chosen}
-use Rattle.check_report.specs.declared.report.Format.TheVariants as format
-use Rattle.check_report.specs.declared.verdict.Counts.{Counts}
+use Rattle.check_report.specs.declared.report.ReportFormat.TheVariants as format
+use Rattle.check_report.specs.declared.verdict.VerdictCounts.{VerdictCounts}
 use Rattle.check_report.specs.Reports.{Case, closing_text, judgements_of, report_front}
 use Rattle.check_report.specs.Verdicts.{counts_of}
 use Rattle.sheet_check.specs.Accept.{AcceptAnswer, Acceptance, EachReported, acceptance, accepted, filing, to_accept}
-use Rattle.sheet_check.specs.Check.{OnlyRead, passage}
-use Rattle.sheet_check.specs.Evaluated.{Way}
+use Rattle.sheet_check.specs.Check.{OnlyRead, Passage, passage}
+use Rattle.sheet_check.specs.Evaluated.{OneByOne, Way}
 use Rattle.sheet_check.specs.declared.named.CheckFault.{CheckFault}
 use Rattle.sheet_check.specs.declared.named.CheckFault.TheVariants as checks
+use Rattle.driver_visits.specs.Copied.{AnsweredOnCopy}
 
 -- these ops are those that were reported, and at most one more
 abbrev pub AtMostOneMore : List Op → List Op → Type 0
 AtMostOneMore put reported = (put ≡ reported) ⊎ ((last : Op) × (put ≡ reported ++ last ∷ []))
 
 -- What an acceptance that reported these cases left of a disk that keeps the model. It couldn't open it and made reads alone. Or it opened it, which
--- changed no byte, and put answers in, those that it reported and at most one more. Each was on the disk before it was reported. When it had ended each image
--- that a crash may leave has all that it reported.
-pub data LeftByAcceptance (x : Acceptance) (text : Option (List ℕ)) : List Case → Type 0 where
-  only_read : OnlyRead x.disk x.back → LeftByAcceptance x text []
+-- changed no byte, and put answers in, those that it reported and at most one more. Each was on the disk before it was reported, and each is a whole block that
+-- answered the line of its field on a copy. When it had ended each image that a crash may leave has all that it reported.
+pub data LeftByAcceptance {C : Type 0} (o : OneByOne C) (q : Passage C) (x : Acceptance) : List Case → Type 0 where
+  only_read : OnlyRead x.disk x.back → LeftByAcceptance o q x []
   put_in : {cases : List Case} (ops put : List Op) → (f : Files (bytes_on x.disk) x.disk ops put x.back) → Looks x.disk.history f.now.history
       → SameDisk f.now x.back → AtMostOneMore put (accepted cases) → InModel f.now (Leaves (HasFirst ops put (accepted cases)) x.back.history.now)
-      → EachReported (filing x.held ops f.now x.back) text put [] cases → LeftByAcceptance x text cases
+      → EachReported (filing x.held ops f.now x.back) q.text put [] cases → AllByRecursion (AnsweredOnCopy o (sheet_of ops) q.sources) put → LeftByAcceptance o q x cases
 
 -- what stands after the report of these cases: their counts, and nothing where it ended by a fault
-abbrev pub closing_after : List Case → Result Counts CheckFault → List ℕ
+abbrev pub closing_after : List Case → Result VerdictCounts CheckFault → List ℕ
 closing_after cases (Ok counts) = closing_text format.Accepting (counts_of (judgements_of cases))
 closing_after cases (Err why) = []
 
 -- An acceptance reported these cases, of which it had put in the answers that it accepts. What it wrote is the report of them and no more, but where
 -- its output failed.
-pub record ReportedAcceptance (x : Acceptance) (text written : Option (List ℕ)) (answer : Result Counts CheckFault) : Type 0 where
+pub record ReportedAcceptance {C : Type 0} (o : OneByOne C) (q : Passage C) (x : Acceptance) (answer : Result VerdictCounts CheckFault) : Type 0 where
   pub cases : List Case
-  pub wrote : (answer ≡ Err (checks.Run fault.Output) → ⊥) → Appends text written (report_front format.Accepting cases ++ closing_after cases answer)
-  pub left : LeftByAcceptance x text cases
+  pub wrote : (answer ≡ Err (checks.Run fault.Output) → ⊥) → Appends q.text q.written (report_front format.Accepting cases ++ closing_after cases answer)
+  pub left : LeftByAcceptance o q x cases
 
 -- Whatever `check --accept` answers, by its contract, on a disk that keeps the model, is one. Writers hold the bytes that `contents` has of them, and held
 -- some while a disk was in a state.
 abbrev pub AcceptancesAreFiled : {C W : Type 0} → (Option ℕ → Way C) → (W → Option (List ℕ)) → (Option (List ℕ) → DiskView → Type 0) → Type 0
-AcceptancesAreFiled {C = C} {W = W} within contents held = (limit : Option ℕ) (chosen : Chosen) (disk back : DiskView) (c d : C) (a b : W) (answer : Result Counts CheckFault)
+AcceptancesAreFiled {C = C} {W = W} within contents held = (limit : Option ℕ) (chosen : Chosen) (disk back : DiskView) (c d : C) (a b : W) (answer : Result VerdictCounts CheckFault)
     → IsTrue disk.keeps_model
     → AcceptAnswer (to_accept (within limit) chosen) (acceptance held disk back) (passage c d (contents a) (contents b)) ((b ≡ a) × (d ≡ c)) answer
-    → ReportedAcceptance (acceptance held disk back) (contents a) (contents b) answer
+    → ReportedAcceptance (to_accept (within limit) chosen) (passage c d (contents a) (contents b)) (acceptance held disk back) answer

@@ -1,4 +1,5 @@
 pub mod Acceptances
+pub mod Copied
 pub mod Earlier
 pub mod Filed
 pub mod Runs

@@ -18,7 +18,7 @@ ghost use Rattle.field_agenda.specs.Standing as standing;
 use crate::asking::{Grouping, asked_together, evals, group_from, lasts_after, next_asked};
 use crate::bounds::{has_few_fields, is_beyond, is_full};
 use crate::heeding::{at_once_after, noted_of, wait_after, waited};
-use crate::looking::{Found, look_for};
+use crate::looking::{Selection, look_for};
 use crate::stage::{FieldDoing, Stage, nothing_asked};
 use crate::times::{late_now, life_due};
 use arrivals::{Input, Woken};
@@ -109,7 +109,7 @@ impl<P: Programs> ByFields<P> {
             → LooksFor (P.finds self.old.programs) self.old w result self.new }
     {
         match look_for(alloc, &self.plan, &self.programs, host.sheet()) {
-            Ok(Found { ids, stage }) => {
+            Ok(Selection { ids, stage }) => {
                 self.ids = Sequence::from_vec(ids);
                 self.stage = stage;
                 Ok(Action::Nothing)

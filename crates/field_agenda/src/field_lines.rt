@@ -12,7 +12,7 @@ use session_engine::Host;
 use sheet_export::Format;
 use std::io::Write;
 use std::slice;
-use tellings::{Frame, Note, Tells};
+use tellings::{Boundary, Note, Tells};
 use worksheet::Sheet;
 
 /// A voice that is given the number of a field in the place of a line's.
@@ -76,7 +76,7 @@ impl<T: Tells> Tells for FieldLines<T> {
 
     ghost to_lines = { fields_keep_to_lines T.voice T.to_lines };
 
-    fn frame<W: Write>(&self, frame: Frame, writer: &mut W) -> Result<(), RunFault> {
+    fn frame<W: Write>(&self, frame: Boundary, writer: &mut W) -> Result<(), RunFault> {
         self.tells.frame(frame, writer)
     }
 

@@ -13,7 +13,7 @@ use std::alloc::{AllocError, Global};
 use worksheet::Sheet;
 
 /// What was found: the fields that are evaluated, or why none is.
-pub(crate) struct Found {
+pub(crate) struct Selection {
     pub(crate) ids: Vec<u32>,
     pub(crate) stage: Stage,
 }
@@ -36,17 +36,17 @@ pub(crate) fn look_for<P: Programs>(
     plan: &Plan,
     programs: &P,
     sheet: &Sheet,
-) -> Result<Found, AllocError>
+) -> Result<Selection, AllocError>
     ensures { IfOk result (λ found. LookFinds (P.finds programs.now) plan.now sheet.now.contents
         found.ids.items found.stage) }
 {
     if let Some(id) = missing_in(&plan.which, sheet) {
-        return Ok(Found {
+        return Ok(Selection {
             ids: Vec::new(alloc),
             stage: Stage::NoField(id),
         });
     }
     let ids = asked_in(alloc, plan, sheet)?;
     let stage = stage_by(plan, programs, sheet, ids.as_slice());
-    Ok(Found { ids, stage })
+    Ok(Selection { ids, stage })
 }

@@ -1,8 +1,8 @@
 -- A check of one worksheet where the places of closed streams can't be held.
 use Rattle.std.proofs.Common.{◌≡◌, Err, inl}
 use Rattle.clap.specs.Words.{Text}
-use Rattle.check_report.specs.declared.report.Format.{Format as Report}
-use Rattle.check_report.specs.declared.report.Format.TheVariants as report
+use Rattle.check_report.specs.declared.report.ReportFormat.{ReportFormat as Report}
+use Rattle.check_report.specs.declared.report.ReportFormat.TheVariants as report
 use Rattle.host_cli.specs.Plans.{CheckPlan}
 use Rattle.host_cli.specs.Outside.{OutsideView}
 use Rattle.host_cli.specs.Tasks.{ChecksIn, EndsWith, OnlyHeld}

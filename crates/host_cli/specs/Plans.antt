@@ -3,8 +3,8 @@ use Rattle.std.specs.Prelude.{◌≡◌, ◌&&◌, ◌||◌, ℕ, Bool, true, fa
 use Rattle.std.specs.Option.{option_map}
 use Rattle.std.specs.Borrow.{Bor}
 use Rattle.clap.specs.Words.{Text}
-use Rattle.check_report.specs.declared.report.Format.{Format}
-use Rattle.check_report.specs.declared.report.Format.TheVariants as format
+use Rattle.check_report.specs.declared.report.ReportFormat.{ReportFormat}
+use Rattle.check_report.specs.declared.report.ReportFormat.TheVariants as format
 use Rattle.check_report.specs.declared.request.Request.{Request}
 use Rattle.command_words.specs.Asked.{EvalView}
 use Rattle.sheet_text.specs.Script.{number_written}
@@ -20,7 +20,7 @@ use Rattle.host_cli.specs.declared.plans.PlanFault.{PlanFault}
 use Rattle.host_cli.specs.declared.plans.PlanFault.TheVariants as plans
 use Rattle.host_cli.specs.declared.plans.SeveralFault.{SeveralFault}
 use Rattle.host_cli.specs.declared.plans.SeveralFault.TheVariants as several_fault
-use Rattle.sheet_check.specs.declared.manner.Beside.{Beside}
+use Rattle.sheet_check.specs.declared.manner.CheckSetup.{CheckSetup}
 
 -- the text of a word that may be given, and those of words
 abbrev pub word_text : Option (Bor Text) → Option Text
@@ -92,7 +92,7 @@ numbers_of_several None None = None
 numbers_of_several None (Some ids) = Some several_fault.Compared
 numbers_of_several (Some ids) compared = Some several_fault.LeftOut
 
-abbrev pub several_refused : Format → Option Text → Option Text → Option SeveralFault
+abbrev pub several_refused : ReportFormat → Option Text → Option Text → Option SeveralFault
 several_refused format.Text left_out compared = numbers_of_several left_out compared
 several_refused format.Whole left_out compared = numbers_of_several left_out compared
 several_refused format.Tap left_out compared = Some several_fault.Format
@@ -117,7 +117,7 @@ abbrev pub check_plan : Request → ℕ → CheckPlan
 check_plan request jobs = record { request = request; jobs = jobs }
 
 -- the same, as functions are given it
-abbrev pub plan_of : Beside → CheckPlan
+abbrev pub plan_of : CheckSetup → CheckPlan
 plan_of beside = check_plan beside.manner.request.now beside.jobs
 
 -- the numbers that words write, where each of them writes one

@@ -4,8 +4,8 @@ use Rattle.std.specs.Bool.{MatchBool}
 use Rattle.std.specs.Io.KnownBytes.{Appends}
 use Rattle.clap.specs.Words.{Text}
 use Rattle.check_report.specs.Requests.{Asks, AsksNone, field_words, report_words}
-use Rattle.check_report.specs.declared.report.Format.{Format as Report}
-use Rattle.check_report.specs.declared.report.Format.TheVariants as report
+use Rattle.check_report.specs.declared.report.ReportFormat.{ReportFormat as Report}
+use Rattle.check_report.specs.declared.report.ReportFormat.TheVariants as report
 use Rattle.check_report.specs.declared.request.Request.{Request}
 use Rattle.check_report.specs.declared.request.RequestFault.{RequestFault}
 use Rattle.command_words.specs.Asked.{CheckView, EvalView, RunView}

@@ -3,13 +3,13 @@ ghost use Rattle.command_words.specs.Asked as asked;
 ghost use Rattle.host_cli.specs.Tasks.{DoesBlocks, DoesBlocksInJson};
 ghost use Rattle.host_cli.specs.WholeProgram.{LeavesAlone};
 
-use crate::outside::{Outside, Seen, System};
+use crate::outside::{Outside, System, SystemView};
 use program_endings::{Ending, run_block_objects, run_blocks};
 use std::alloc::Global;
 
 /// `blocks`.
 pub(crate) fn blocks<Y: System>(alloc: Global, outside: &mut Outside<Y>) -> Ending
-    ensures does { DoesBlocks ⟦<Y as Seen>⟧.outer outside.old outside.new result }
+    ensures does { DoesBlocks ⟦<Y as SystemView>⟧.outer outside.old outside.new result }
     ensures leaves { LeavesAlone outside.old outside.new asked.blocks }
 {
     run_blocks(
@@ -22,7 +22,7 @@ pub(crate) fn blocks<Y: System>(alloc: Global, outside: &mut Outside<Y>) -> Endi
 
 /// `blocks --json`.
 pub(crate) fn blocks_in_json<Y: System>(alloc: Global, outside: &mut Outside<Y>) -> Ending
-    ensures does { DoesBlocksInJson ⟦<Y as Seen>⟧.outer outside.old outside.new result }
+    ensures does { DoesBlocksInJson ⟦<Y as SystemView>⟧.outer outside.old outside.new result }
     ensures leaves { LeavesAlone outside.old outside.new asked.blocks_json }
 {
     run_block_objects(

@@ -4,16 +4,16 @@ ghost use Rattle.command_words.specs.Asked.{check_view};
 ghost use Rattle.host_cli.specs.Plans.{plan_of, word_texts};
 ghost use Rattle.host_cli.specs.Tasks.{AcceptsHeld, ChecksAs, ChecksBy, ChecksPaths, Compares, ComparesEach, ComparesNext, DoesCheck, TogetherAs};
 
-use crate::outside::{Outside, Performed, Seen, System, ended, give};
+use crate::outside::{Outside, Performed, System, SystemView, ended, give};
 use crate::plans::{are_several, read_check_jobs, read_limit, several_fault};
 use crate::refusing::{refuse_check_limit, refuse_jobs, refuse_request, refuse_several};
-use check_report::{FieldWords, Format as Report, ReportWords, read_request};
+use check_report::{FieldWords, ReportFormat as Report, ReportWords, read_request};
 use command_words::CheckWords;
 use program_endings::{
     CheckEnding, GivenBack, Total, end_total, end_unheld, end_unwritten, is_unwritten, run_accept,
     run_check, run_check_together, tell_worksheet,
 };
-use sheet_check::{Beside, Manner};
+use sheet_check::{CheckManner, CheckSetup};
 use sheet_files::Places;
 use std::alloc::Global;
 
@@ -24,8 +24,8 @@ struct Compared<Y: System> {
 }
 
 /// `check` of the worksheet at a path, of one field after another.
-fn check_as<Y: System>(mut outside: Outside<Y>, beside: &Beside<'_>, path: &str) -> Compared<Y>
-    ensures does { ChecksAs ⟦<Y as Seen>⟧.outer outside result.outside result.end path.now
+fn check_as<Y: System>(mut outside: Outside<Y>, beside: &CheckSetup<'_>, path: &str) -> Compared<Y>
+    ensures does { ChecksAs ⟦<Y as SystemView>⟧.outer outside result.outside result.end path.now
         (plan_of beside.now) }
     ensures leaves { result.outside.input ≡ outside.input }
 {
@@ -45,10 +45,10 @@ fn check_as<Y: System>(mut outside: Outside<Y>, beside: &Beside<'_>, path: &str)
 /// `check` of the worksheet at a path, of fields side by side.
 fn check_together_as<Y: System>(
     mut outside: Outside<Y>,
-    beside: &Beside<'_>,
+    beside: &CheckSetup<'_>,
     path: &str,
 ) -> Compared<Y>
-    ensures does { TogetherAs ⟦<Y as Seen>⟧.outer outside result.outside result.end path.now
+    ensures does { TogetherAs ⟦<Y as SystemView>⟧.outer outside result.outside result.end path.now
         (plan_of beside.now) }
     ensures leaves { result.outside.input ≡ outside.input }
 {
@@ -67,8 +67,8 @@ fn check_together_as<Y: System>(
 
 /// Checks a worksheet, once the places of closed streams are held: its sessions side by side where that is asked
 /// for, and else one field after another.
-fn compare<Y: System>(outside: Outside<Y>, beside: &Beside<'_>, path: &str) -> Compared<Y>
-    ensures does { Compares ⟦<Y as Seen>⟧.outer outside result.outside result.end path.now
+fn compare<Y: System>(outside: Outside<Y>, beside: &CheckSetup<'_>, path: &str) -> Compared<Y>
+    ensures does { Compares ⟦<Y as SystemView>⟧.outer outside result.outside result.end path.now
         (plan_of beside.now) }
     ensures leaves { result.outside.input ≡ outside.input }
 {
@@ -80,9 +80,13 @@ fn compare<Y: System>(outside: Outside<Y>, beside: &Beside<'_>, path: &str) -> C
 }
 
 /// `check` of the worksheet at a path whose answers are accepted, once the places of closed streams are held.
-fn accept_as<Y: System>(mut outside: Outside<Y>, manner: &Manner<'_>, path: &str) -> Performed<Y>
-    ensures does { AcceptsHeld ⟦<Y as Seen>⟧.outer outside result.outside result.ending path.now
-        manner.now.request.now }
+fn accept_as<Y: System>(
+    mut outside: Outside<Y>,
+    manner: &CheckManner<'_>,
+    path: &str,
+) -> Performed<Y>
+    ensures does { AcceptsHeld ⟦<Y as SystemView>⟧.outer outside result.outside result.ending
+        path.now manner.now.request.now }
     ensures leaves { result.outside.input ≡ outside.input }
 {
     let files = outside.places.open(path);
@@ -96,8 +100,8 @@ fn accept_as<Y: System>(mut outside: Outside<Y>, manner: &Manner<'_>, path: &str
 }
 
 /// `check` of the worksheet at one path, with answers that are accepted or without.
-fn check_by<Y: System>(mut outside: Outside<Y>, beside: &Beside<'_>, path: &str) -> Performed<Y>
-    ensures does { ChecksBy ⟦<Y as Seen>⟧.outer outside result.outside result.ending path.now
+fn check_by<Y: System>(mut outside: Outside<Y>, beside: &CheckSetup<'_>, path: &str) -> Performed<Y>
+    ensures does { ChecksBy ⟦<Y as SystemView>⟧.outer outside result.outside result.ending path.now
         (plan_of beside.now) }
     ensures leaves { result.outside.input ≡ outside.input }
 {
@@ -115,8 +119,12 @@ fn check_by<Y: System>(mut outside: Outside<Y>, beside: &Beside<'_>, path: &str)
 }
 
 /// One worksheet of several: a line with its path, and its check.
-fn compare_next<Y: System>(mut outside: Outside<Y>, beside: &Beside<'_>, path: &str) -> Compared<Y>
-    ensures does { ComparesNext ⟦<Y as Seen>⟧.outer outside result.outside result.end path.now
+fn compare_next<Y: System>(
+    mut outside: Outside<Y>,
+    beside: &CheckSetup<'_>,
+    path: &str,
+) -> Compared<Y>
+    ensures does { ComparesNext ⟦<Y as SystemView>⟧.outer outside result.outside result.end path.now
         (plan_of beside.now) }
     ensures leaves { result.outside.input ≡ outside.input }
 {
@@ -133,11 +141,11 @@ fn compare_next<Y: System>(mut outside: Outside<Y>, beside: &Beside<'_>, path: &
 #[tactic(auto, using(crate::proofs::EachChecked::each_steps))]
 fn compare_each<Y: System>(
     mut outside: Outside<Y>,
-    beside: &Beside<'_>,
+    beside: &CheckSetup<'_>,
     paths: &[&str],
 ) -> Performed<Y>
-    ensures does { ComparesEach ⟦<Y as Seen>⟧.outer (plan_of beside.now) [] (word_texts paths.now)
-        outside result.outside result.ending }
+    ensures does { ComparesEach ⟦<Y as SystemView>⟧.outer (plan_of beside.now) []
+        (word_texts paths.now) outside result.outside result.ending }
     ensures leaves { result.outside.input ≡ outside.input }
 {
     let mut total = Total::none();
@@ -161,12 +169,12 @@ fn compare_each<Y: System>(
 /// `check` of the worksheet at a path, or of several that the words name.
 fn check_paths<Y: System>(
     mut outside: Outside<Y>,
-    beside: &Beside<'_>,
+    beside: &CheckSetup<'_>,
     path: &str,
     words: &CheckWords<'_>,
 ) -> Performed<Y>
-    ensures does { ChecksPaths ⟦<Y as Seen>⟧.outer outside result.outside result.ending path.now
-        (check_view words.now) (plan_of beside.now) }
+    ensures does { ChecksPaths ⟦<Y as SystemView>⟧.outer outside result.outside result.ending
+        path.now (check_view words.now) (plan_of beside.now) }
     ensures leaves { result.outside.input ≡ outside.input }
 {
     if !are_several(words.paths.as_slice()) {
@@ -189,7 +197,7 @@ pub(crate) fn check_at<Y: System>(
     path: &str,
     words: CheckWords<'_>,
 ) -> Performed<Y>
-    ensures does { DoesCheck ⟦<Y as Seen>⟧.outer outside result.outside result.ending path.now
+    ensures does { DoesCheck ⟦<Y as SystemView>⟧.outer outside result.outside result.ending path.now
         (check_view words.entry) }
     ensures leaves { result.outside.input ≡ outside.input }
 {
@@ -214,11 +222,11 @@ pub(crate) fn check_at<Y: System>(
     };
     match read_request(alloc, report, fields, limit) {
         Ok(request) => {
-            let manner = Manner {
+            let manner = CheckManner {
                 alloc,
                 request: &request,
             };
-            check_paths(outside, &Beside { manner, jobs }, path, &words)
+            check_paths(outside, &CheckSetup { manner, jobs }, path, &words)
         }
         Err(why) => ended(refuse_request(why, &mut outside.errors), outside),
     }

@@ -18,7 +18,7 @@ pub mod terminal;
 mod waiting;
 
 pub use outlet::Outlet;
-pub use outside::{Outside, Performed, Seen, System};
+pub use outside::{Outside, Performed, System, SystemView};
 pub use plans::PlanFault;
 pub use refusing::{refuse_unread_words, refuse_words};
 pub use tasks::{do_task, perform};

@@ -7,7 +7,7 @@ use crate::Outlet;
 use driver::Stamped;
 use offline_programs::Says;
 use partial_output::TellsPartial;
-use program_endings::{Ending, Given};
+use program_endings::{Ending, Resources};
 use sheet_check::Progress;
 use sheet_files::{Close, FilesFault, Places};
 use std::io::Read;
@@ -30,12 +30,12 @@ pub trait System {
     type Progress: Progress + Drop;
 }
 
-/// How contracts see what is outside, of each system: `⟦<Y as Seen>⟧.outer`.
-pub trait Seen: System {
+/// How contracts see what is outside, of each system: `⟦<Y as SystemView>⟧.outer`.
+pub trait SystemView: System {
     ghost outer: { OutsideView Self.Disk Self.Places Self.Sources Self.Input Self.Output Self.Errors };
 }
 
-impl<Y: System> Seen for Y {
+impl<Y: System> SystemView for Y {
     ghost outer = { outside_view Y.Places.Places (disks_seen Y.Disk.Disk Y.Disk.closed) (source_rules Y.Sources.after Y.Sources.wakes Y.Sources.clock) Y.Sources.begins
         (streams_seen Y.Input.Read (output_seen Y.Output.Write Y.Output.held Y.Output.flushed Y.Output.tried) Y.Errors.Write Y.Errors.tried) };
 }
@@ -52,7 +52,7 @@ pub struct Outside<Y: System> {
 }
 
 /// What is left of that while a program has the sources and the output.
-pub(crate) struct Kept<Y: System> {
+pub(crate) struct Remaining<Y: System> {
     pub(crate) places: Y::Places,
     pub(crate) input: Y::Input,
     pub(crate) errors: Y::Errors,
@@ -70,7 +70,7 @@ pub struct Performed<Y: System> {
 pub(crate) fn give<Y: System>(
     outside: Outside<Y>,
     files: Result<Y::Disk, FilesFault>,
-) -> (Given<Y::Disk, Y::Sources, Y::Output>, Kept<Y>)
+) -> (Resources<Y::Disk, Y::Sources, Y::Output>, Remaining<Y>)
     ensures given { result.0 ≡ record {
       files = files;
       sources = outside.sources;
@@ -91,12 +91,12 @@ pub(crate) fn give<Y: System>(
         errors,
         progress,
     } = outside;
-    let given = Given {
+    let given = Resources {
         files,
         sources,
         output,
     };
-    let kept = Kept {
+    let kept = Remaining {
         places,
         input,
         errors,
@@ -105,7 +105,7 @@ pub(crate) fn give<Y: System>(
     (given, kept)
 }
 
-impl<Y: System> Kept<Y> {
+impl<Y: System> Remaining<Y> {
     /// All that is outside, once the program has given the sources and the output back.
     pub(crate) fn with(self, sources: Y::Sources, output: Y::Output) -> Outside<Y>
         ensures { result ≡ record {
@@ -117,7 +117,7 @@ impl<Y: System> Kept<Y> {
           progress = self.progress;
         } }
     {
-        let Kept {
+        let Remaining {
             places,
             input,
             errors,

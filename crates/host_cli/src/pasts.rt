@@ -6,7 +6,7 @@ ghost use Rattle.sheet_export.specs.Formats as exports;
 ghost use Rattle.host_cli.specs.Tasks.{DoesExportAt, DoesHistory, DoesRestore, DoesShowAt, ExportsAfter, ExportsPast, RestoresAfter, ShowsAfter};
 ghost use Rattle.host_cli.specs.WholeProgram.{LeavesAlone};
 
-use crate::outside::{Outside, Seen, System};
+use crate::outside::{Outside, System, SystemView};
 use crate::refusing::{refuse_changes, refuse_format};
 use offline_programs::Says;
 use program_endings::{
@@ -22,7 +22,7 @@ use std::io::Write;
 
 /// `history` of the worksheet at a path.
 pub(crate) fn history_at<Y: System>(alloc: Global, outside: &mut Outside<Y>, path: &str) -> Ending
-    ensures does { DoesHistory ⟦<Y as Seen>⟧.outer outside.old outside.new result path.now }
+    ensures does { DoesHistory ⟦<Y as SystemView>⟧.outer outside.old outside.new result path.now }
     ensures leaves { LeavesAlone outside.old outside.new (asked.history path.now) }
 {
     match outside.places.hold() {
@@ -43,7 +43,8 @@ fn show_after<Y: System>(
     path: &str,
     changes: u32,
 ) -> Ending
-    ensures does { ShowsAfter ⟦<Y as Seen>⟧.outer outside.old outside.new result path.now changes }
+    ensures does { ShowsAfter ⟦<Y as SystemView>⟧.outer outside.old outside.new result path.now
+        changes }
     ensures leaves { LeavesAlone outside.old outside.new (asked.show_at path.now []) }
 {
     if let Err(why) = outside.places.hold() {
@@ -62,7 +63,7 @@ pub(crate) fn show_past_at<Y: System>(
     path: &str,
     changes: &str,
 ) -> Ending
-    ensures does { DoesShowAt ⟦<Y as Seen>⟧.outer outside.old outside.new result path.now
+    ensures does { DoesShowAt ⟦<Y as SystemView>⟧.outer outside.old outside.new result path.now
         changes.now }
     ensures leaves { LeavesAlone outside.old outside.new (asked.show_at path.now changes.now) }
 {
@@ -112,8 +113,8 @@ fn export_after<Y: System>(
     path: &str,
     changes: u32,
 ) -> Ending
-    ensures does { ExportsAfter ⟦<Y as Seen>⟧.outer outside.old outside.new result path.now format
-        changes }
+    ensures does { ExportsAfter ⟦<Y as SystemView>⟧.outer outside.old outside.new result path.now
+        format changes }
     ensures leaves { LeavesAlone outside.old outside.new (asked.export_at [] path.now []) }
 {
     if let Err(why) = outside.places.hold() {
@@ -139,7 +140,7 @@ pub(crate) fn export_as_past<Y: System>(
     path: &str,
     changes: &str,
 ) -> Ending
-    ensures does { ExportsPast ⟦<Y as Seen>⟧.outer outside.old outside.new result path.now
+    ensures does { ExportsPast ⟦<Y as SystemView>⟧.outer outside.old outside.new result path.now
         changes.now format }
     ensures leaves { LeavesAlone outside.old outside.new (asked.export_at [] path.now changes.now) }
 {
@@ -157,8 +158,8 @@ pub(crate) fn export_past_at<Y: System>(
     path: &str,
     changes: &str,
 ) -> Ending
-    ensures does { DoesExportAt ⟦<Y as Seen>⟧.outer outside.old outside.new result name.now path.now
-        changes.now }
+    ensures does { DoesExportAt ⟦<Y as SystemView>⟧.outer outside.old outside.new result name.now
+        path.now changes.now }
     ensures leaves { LeavesAlone outside.old outside.new (asked.export_at name.now path.now
         changes.now) }
 {
@@ -176,8 +177,8 @@ fn restore_after<Y: System>(
     changes: u32,
     new: &str,
 ) -> Ending
-    ensures does { RestoresAfter ⟦<Y as Seen>⟧.outer outside.old outside.new result path.now new.now
-        changes }
+    ensures does { RestoresAfter ⟦<Y as SystemView>⟧.outer outside.old outside.new result path.now
+        new.now changes }
     ensures leaves { LeavesAlone outside.old outside.new (asked.restore path.now [] new.now) }
 {
     if let Err(why) = outside.places.hold() {
@@ -203,7 +204,7 @@ pub(crate) fn restore_at<Y: System>(
     changes: &str,
     new: &str,
 ) -> Ending
-    ensures does { DoesRestore ⟦<Y as Seen>⟧.outer outside.old outside.new result path.now
+    ensures does { DoesRestore ⟦<Y as SystemView>⟧.outer outside.old outside.new result path.now
         changes.now new.now }
     ensures leaves { LeavesAlone outside.old outside.new (asked.restore path.now changes.now
         new.now) }

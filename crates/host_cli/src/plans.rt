@@ -6,7 +6,7 @@ ghost use Rattle.host_cli.specs.Plans as plan;
 ghost use Rattle.host_cli.specs.inside.Reading.{IsWhy};
 
 use block_tree::{OutOfMemory, Sequence};
-use check_report::Format as Report;
+use check_report::ReportFormat as Report;
 use command_words::EvalWords;
 use evaluation::{Plan, Spared, Which};
 use live::MOST_SECONDS;

@@ -43,11 +43,11 @@ impl Message for FromClap<'_> {
 
 /// A text of this program's own.
 #[derive(Clone, Copy)]
-struct Text<'a> {
+struct OwnText<'a> {
     bytes: &'a [u8],
 }
 
-impl Message for Text<'_> {
+impl Message for OwnText<'_> {
     ghost text = { λ text. Some text.bytes.now };
 
     fn write<W: Write>(&self, out: &mut W) -> Result<(), WriteFault> {
@@ -105,7 +105,7 @@ pub fn refuse_unread_words<E: Says>(kind: io::ErrorKind, errors: &mut E) -> Endi
 fn refuse_with<E: Says>(text: &[u8], errors: &mut E) -> Ending
     ensures { RefusesWith text.now (⟦<E as Heard>⟧.said errors.old errors.new) result }
 {
-    refused(errors.say(&Text { bytes: text }))
+    refused(errors.say(&OwnText { bytes: text }))
 }
 
 /// Refuses words that ask for a format that there isn't.

@@ -5,13 +5,13 @@ ghost use Rattle.host_cli.specs.Tasks.{DoesLive, DoesRun, LivesAs, LivesPartial,
 ghost use Rattle.tellings.specs.Json.{in_json};
 ghost use Rattle.tellings.specs.Words.{in_words};
 
-use crate::outside::{Outside, Performed, Seen, System, ended};
+use crate::outside::{Outside, Performed, System, SystemView, ended};
 use crate::plans::read_limit;
 use crate::refusing::refuse_run_limit;
 use command_words::RunWords;
 use live::Manner;
 use partial_output::TellsPartial;
-use program_endings::{Given, GivenBack, LineSetting, end_unheld, run_live, run_script};
+use program_endings::{GivenBack, LineSetting, Resources, end_unheld, run_live, run_script};
 use sheet_files::Places;
 use std::alloc::Global;
 use tellings::{InJson, InWords, Tells};
@@ -29,7 +29,7 @@ fn live_reported<Y: System, T: Tells + Copy>(
     mut outside: Outside<Y>,
     path: &str,
 ) -> Performed<Y>
-    ensures does { LivesAs ⟦<Y as Seen>⟧.outer setting.manner T.voice outside result.outside
+    ensures does { LivesAs ⟦<Y as SystemView>⟧.outer setting.manner T.voice outside result.outside
         result.ending path.now }
     ensures leaves { result.outside.progress ≡ outside.progress }
 {
@@ -45,7 +45,7 @@ fn live_reported<Y: System, T: Tells + Copy>(
         mut errors,
         progress,
     } = outside;
-    let given = Given {
+    let given = Resources {
         files,
         sources,
         output,
@@ -70,7 +70,7 @@ fn live_reported<Y: System, T: Tells + Copy>(
 
 /// `live` in words.
 pub(crate) fn live_at<Y: System>(alloc: Global, outside: Outside<Y>, path: &str) -> Performed<Y>
-    ensures does { DoesLive ⟦<Y as Seen>⟧.outer in_words outside result.outside result.ending
+    ensures does { DoesLive ⟦<Y as SystemView>⟧.outer in_words outside result.outside result.ending
         path.now }
     ensures leaves { result.outside.progress ≡ outside.progress }
 {
@@ -88,7 +88,7 @@ pub(crate) fn live_json_at<Y: System>(
     outside: Outside<Y>,
     path: &str,
 ) -> Performed<Y>
-    ensures does { DoesLive ⟦<Y as Seen>⟧.outer in_json outside result.outside result.ending
+    ensures does { DoesLive ⟦<Y as SystemView>⟧.outer in_json outside result.outside result.ending
         path.now }
     ensures leaves { result.outside.progress ≡ outside.progress }
 {
@@ -106,7 +106,8 @@ pub(crate) fn live_partial_at<Y: System>(
     mut outside: Outside<Y>,
     path: &str,
 ) -> Performed<Y>
-    ensures does { LivesPartial ⟦<Y as Seen>⟧.outer outside result.outside result.ending path.now }
+    ensures does { LivesPartial ⟦<Y as SystemView>⟧.outer outside result.outside result.ending
+        path.now }
     ensures leaves { result.outside.progress ≡ outside.progress }
 {
     outside.sources.tell_partial();
@@ -120,7 +121,7 @@ fn run_reported<Y: System>(
     strict: bool,
     path: &str,
 ) -> Performed<Y>
-    ensures does { RunsScript ⟦<Y as Seen>⟧.outer strict outside result.outside result.ending
+    ensures does { RunsScript ⟦<Y as SystemView>⟧.outer strict outside result.outside result.ending
         path.now }
     ensures leaves { result.outside.progress ≡ outside.progress }
 {
@@ -136,7 +137,7 @@ fn run_reported<Y: System>(
         mut errors,
         progress,
     } = outside;
-    let given = Given {
+    let given = Resources {
         files,
         sources,
         output,
@@ -166,7 +167,7 @@ pub(crate) fn run_at<Y: System>(
     path: &str,
     words: RunWords<'_>,
 ) -> Performed<Y>
-    ensures does { DoesRun ⟦<Y as Seen>⟧.outer outside result.outside result.ending path.now
+    ensures does { DoesRun ⟦<Y as SystemView>⟧.outer outside result.outside result.ending path.now
         (run_view words.entry) }
     ensures leaves { result.outside.progress ≡ outside.progress }
 {

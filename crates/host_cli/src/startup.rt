@@ -5,7 +5,7 @@ use arrivals::Polled;
 use child_calls::Processes;
 use partial_output::Partial;
 use sheet_check::ProgressLine;
-use sheet_files::{Closed, FileDisk, FileNames, FilePlaces, OpenedFile};
+use sheet_files::{ClosedStreams, FileDisk, FileNames, FilePlaces, OpenedFile};
 use std::alloc::AllocError;
 use std::fs::File;
 use std::io::{BufWriter, ErrorKind, IsTerminal, Stderr, Stdout};
@@ -66,7 +66,7 @@ fn progress(rt: &HostRuntime) -> ProgressLine<BufWriter<Stderr>> {
 ///
 /// `AllocError`: there was no memory for them.
 pub fn outside<'a>(rt: &'a HostRuntime) -> Result<Outside<Real<'a>>, AllocError> {
-    let closed = Closed::find(&rt.stdin(), &rt.stdout(), &rt.stderr());
+    let closed = ClosedStreams::find(&rt.stdin(), &rt.stdout(), &rt.stderr());
     let output = PatientOutput::new(rt.stdout());
     let Ok(output) = BufWriter::with_capacity(rt.alloc(), BUFFER, output) else {
         return Err(AllocError);

@@ -11,7 +11,7 @@ use crate::blocks::{blocks, blocks_in_json};
 use crate::checks::check_at;
 use crate::finding::FoundIn;
 use crate::outlet::Outlet;
-use crate::outside::{Outside, Performed, Seen, System, ended};
+use crate::outside::{Outside, Performed, System, SystemView, ended};
 use crate::pasts::{export_as_past, export_past_at, history_at, restore_at, show_past_at, titled};
 use crate::plans::read_plan;
 use crate::refusing::{refuse_format, refuse_plan};
@@ -21,7 +21,7 @@ use command_words::{EvalWords, Task, read_words};
 use evaluation::Plan;
 use offline_programs::{RunFault, Says};
 use program_endings::{
-    Ending, FieldSetting, Given, GivenBack, Heard, end_program, end_unheld, read_rescued,
+    Ending, FieldSetting, GivenBack, Heard, Resources, end_program, end_unheld, read_rescued,
     run_create, run_evaluation, run_export, run_rescue, run_show,
 };
 use sheet_export::{Format, format_named};
@@ -32,7 +32,7 @@ use tellings::{InJson, InWords, Tells};
 
 /// `create` at a path.
 fn create_at<Y: System>(outside: &mut Outside<Y>, path: &str) -> Ending
-    ensures does { DoesCreate ⟦<Y as Seen>⟧.outer outside.old outside.new result path.now }
+    ensures does { DoesCreate ⟦<Y as SystemView>⟧.outer outside.old outside.new result path.now }
     ensures leaves { LeavesAlone outside.old outside.new (asked.create path.now) }
 {
     match outside.places.hold() {
@@ -43,7 +43,7 @@ fn create_at<Y: System>(outside: &mut Outside<Y>, path: &str) -> Ending
 
 /// `show` of the worksheet at a path.
 fn show_at<Y: System>(alloc: Global, outside: &mut Outside<Y>, path: &str) -> Ending
-    ensures does { DoesShow ⟦<Y as Seen>⟧.outer outside.old outside.new result path.now }
+    ensures does { DoesShow ⟦<Y as SystemView>⟧.outer outside.old outside.new result path.now }
     ensures leaves { LeavesAlone outside.old outside.new (asked.show path.now) }
 {
     match outside.places.hold() {
@@ -65,8 +65,8 @@ fn eval_as<Y: System, T: Tells + Copy>(
     tells: T,
     path: &str,
 ) -> Performed<Y>
-    ensures does { EvaluatesAs ⟦<Y as Seen>⟧.outer T.voice plan outside result.outside result.ending
-        path.now }
+    ensures does { EvaluatesAs ⟦<Y as SystemView>⟧.outer T.voice plan outside result.outside
+        result.ending path.now }
     ensures leaves { (result.outside.input ≡ outside.input)
         × (result.outside.progress ≡ outside.progress) }
 {
@@ -84,7 +84,7 @@ fn eval_as<Y: System, T: Tells + Copy>(
     } = outside;
     let setting = FieldSetting { alloc, plan, tells };
     let programs = FoundIn::<Y>::new(&places);
-    let given = Given {
+    let given = Resources {
         files,
         sources,
         output,
@@ -115,7 +115,7 @@ fn eval_reported<Y: System>(
     json: bool,
     path: &str,
 ) -> Performed<Y>
-    ensures does { EvaluatesAs ⟦<Y as Seen>⟧.outer (voice_by json) plan outside result.outside
+    ensures does { EvaluatesAs ⟦<Y as SystemView>⟧.outer (voice_by json) plan outside result.outside
         result.ending path.now }
     ensures leaves { (result.outside.input ≡ outside.input)
         × (result.outside.progress ≡ outside.progress) }
@@ -134,7 +134,7 @@ fn eval_at<Y: System>(
     path: &str,
     words: EvalWords<'_>,
 ) -> Performed<Y>
-    ensures does { DoesEval ⟦<Y as Seen>⟧.outer outside result.outside result.ending path.now
+    ensures does { DoesEval ⟦<Y as SystemView>⟧.outer outside result.outside result.ending path.now
         (eval_view words.entry) }
     ensures leaves { LeavesAlone outside result.outside (asked.eval path.now
         (eval_view words.entry)) }
@@ -147,7 +147,8 @@ fn eval_at<Y: System>(
 
 /// `rescue` from a path to a new one, which is made only where there is something to rescue.
 fn rescue_at<Y: System>(alloc: Global, outside: &mut Outside<Y>, path: &str, new: &str) -> Ending
-    ensures does { DoesRescue ⟦<Y as Seen>⟧.outer outside.old outside.new result path.now new.now }
+    ensures does { DoesRescue ⟦<Y as SystemView>⟧.outer outside.old outside.new result path.now
+        new.now }
     ensures leaves { LeavesAlone outside.old outside.new (asked.rescue path.now new.now) }
 {
     if let Err(why) = outside.places.hold() {
@@ -172,7 +173,8 @@ fn export_as<Y: System>(
     format: Format,
     path: &str,
 ) -> Ending
-    ensures does { ExportsAs ⟦<Y as Seen>⟧.outer outside.old outside.new result path.now format }
+    ensures does { ExportsAs ⟦<Y as SystemView>⟧.outer outside.old outside.new result path.now
+        format }
     ensures leaves { LeavesAlone outside.old outside.new (asked.export [] path.now) }
 {
     match outside.places.hold() {
@@ -189,7 +191,8 @@ fn export_as<Y: System>(
 
 /// `export` in the format of this name.
 fn export_at<Y: System>(alloc: Global, outside: &mut Outside<Y>, name: &str, path: &str) -> Ending
-    ensures does { DoesExport ⟦<Y as Seen>⟧.outer outside.old outside.new result name.now path.now }
+    ensures does { DoesExport ⟦<Y as SystemView>⟧.outer outside.old outside.new result name.now
+        path.now }
     ensures leaves { LeavesAlone outside.old outside.new (asked.export name.now path.now) }
 {
     match format_named(name) {
@@ -203,7 +206,7 @@ fn export_at<Y: System>(alloc: Global, outside: &mut Outside<Y>, name: &str, pat
 /// the path, once the places of closed streams are held. What they give goes to the output, and the line of a fault to the
 /// errors. `check` alone has `progress` show something.
 pub fn do_task<Y: System>(alloc: Global, task: Task<'_>, mut outside: Outside<Y>) -> Performed<Y>
-    ensures does { DoesTask ⟦<Y as Seen>⟧.outer outside result.outside result.ending
+    ensures does { DoesTask ⟦<Y as SystemView>⟧.outer outside result.outside result.ending
         (task_view task.entry) }
     ensures leaves { LeavesAlone outside result.outside (task_view task.entry) }
 {
@@ -257,7 +260,7 @@ fn end_unsent<E: Says>(alone: Ending, errors: &mut E) -> Ending
 
 /// Flushes what the output keeps back, at the end of the program.
 fn flush_output<Y: System>(outside: &mut Outside<Y>, alone: Ending) -> Ending
-    ensures { FlushesOutput ⟦<Y as Seen>⟧.outer outside.old outside.new alone result }
+    ensures { FlushesOutput ⟦<Y as SystemView>⟧.outer outside.old outside.new alone result }
 {
     match outside.output.flush_out() {
         Ok(()) => alone,
@@ -271,7 +274,7 @@ fn perform_unsent<Y: System>(
     words: Result<Vec<String>, io::ErrorKind>,
     mut outside: Outside<Y>,
 ) -> Performed<Y>
-    ensures { EndsWithin ⟦<Y as Seen>⟧.outer (λ all. map string_bytes all.items) words outside
+    ensures { EndsWithin ⟦<Y as SystemView>⟧.outer (λ all. map string_bytes all.items) words outside
         result.outside result.ending }
 {
     match words {
@@ -296,7 +299,7 @@ pub fn perform<Y: System>(
     words: Result<Vec<String>, io::ErrorKind>,
     outside: Outside<Y>,
 ) -> Performed<Y>
-    ensures { Performs ⟦<Y as Seen>⟧.outer (λ all. map string_bytes all.items) words outside
+    ensures { Performs ⟦<Y as SystemView>⟧.outer (λ all. map string_bytes all.items) words outside
         result.outside result.ending }
 {
     let Performed {

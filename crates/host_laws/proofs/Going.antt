@@ -91,6 +91,14 @@ sound ops room end allowed = record { allowed = allowed; lives = tt }
 owned : (ops : List Op) (room end : ℕ) → Allowed ops → Owned (world_at_opening ops room end)
 owned ops room end allowed = opened_owned (world_at_opening ops room end) (refl, allowed)
 
+-- What one host shows: a field that shows an answer was there at the opening and stayed as it is, or one of the steps closed its answer.
+pub shown_by_host : (found : List Op) (room end : ℕ) (es : List Event) (os : List Outcome) (w : World) → Allowed found → Runs (world_at_opening found room end) es os w
+    → (steps : List HostStep) × StepsOf (world_at_opening found room end) es os steps w
+    × ((f : Field) (a : Answer) → f.answer ≡ Some a → Has (sheet_in w) f → (Has (sheet_of found) f × KeepField f steps) ⊎ AnsweredIn steps f)
+shown_by_host found room end es os w allowed run =
+    let did = steps_of (world_at_opening found room end) es os w run in
+    (did.0, did.1, λ f a some has. shown did.1 (sound found room end allowed) (owned found room end allowed) f a some has)
+
 go_on : OneSheet → (room : ℕ) (first : List Op) (before : Image) (turns : List HostTurn) (after : Image) → Allowed first → IsSheetImage (sheet_of first) before
     → EachTurned room before turns after → LeftInTurn room first before after turns
 go_on one room first before [] after allowed image each = subst (λ (i : Image). LeftInTurn room first before i []) (sym each) record {

@@ -6,7 +6,7 @@ use Rattle.std.proofs.Math.Bool.{and-true}
 use Rattle.std.proofs.lemmas.List.{length-append}
 use Rattle.std.proofs.lemmas.List.Folds.{list_all-append}
 use Rattle.std.proofs.lemmas.List.Sums.{sum_by-append}
-use Rattle.check_report.specs.declared.verdict.Counts.{Counts}
+use Rattle.check_report.specs.declared.verdict.VerdictCounts.{VerdictCounts}
 use Rattle.sheet_check.specs.declared.named.CheckFault.{CheckFault}
 use Rattle.program_endings.specs.SeveralProgram.{counted_by, counted_in, faults_by, faults_in, went_out, is_well, total_of}
 use Rattle.program_endings.specs.inside.Totals.{with_counts, with_fault}
@@ -30,14 +30,14 @@ same_total w v s r d c u b x y i j f e p o t q g h a aa bb k l m n = cc
 same_sum : (f : CheckEnding → ℕ) (ends : List CheckEnding) (end : CheckEnding) → f end ≡ 0 → sum_by f ends ≡ sum_by f (ends ++ end ∷ [])
 same_sum f ends end e = omega (arith, sum_more f ends end, e)
 
-counted : (part : Counts → ℕ) (ends : List CheckEnding) (end : CheckEnding) (n : ℕ) → n ≡ counted_in part end → sum_by (counted_in part) ends + n ≡ sum_by (counted_in part) (ends ++ end ∷ [])
+counted : (part : VerdictCounts → ℕ) (ends : List CheckEnding) (end : CheckEnding) (n : ℕ) → n ≡ counted_in part end → sum_by (counted_in part) ends + n ≡ sum_by (counted_in part) (ends ++ end ∷ [])
 counted part ends end n e = ap (λ m. sum_by (counted_in part) ends + m) e ∙ sum_more (counted_in part) ends end
 
 faulty : (ends : List CheckEnding) (end : CheckEnding) (n : ℕ) → n ≡ faults_in end → sum_by faults_in ends + n ≡ sum_by faults_in (ends ++ end ∷ [])
 faulty ends end n e = ap (λ m. sum_by faults_in ends + m) e ∙ sum_more faults_in ends end
 
 -- with the counts of one that came to its end
-counts_more : (ends : List CheckEnding) (end : CheckEnding) (counts : Counts) → end.answer ≡ Ok counts → with_counts counts end.ending (total_of ends) ≡ total_of (ends ++ end ∷ [])
+counts_more : (ends : List CheckEnding) (end : CheckEnding) (counts : VerdictCounts) → end.answer ≡ Ok counts → with_counts counts end.ending (total_of ends) ≡ total_of (ends ++ end ∷ [])
 counts_more ends end counts e =
     same_total _ _ _ _ _ _ _ _ _ _ _ _ _ _ _ _ _ _ (length_more ends end)
     (counted (λ c. c.same) ends end counts.same (sym (ap (counted_by (λ c. c.same)) e)))
@@ -60,7 +60,7 @@ fault_more ends end why e =
     (faulty ends end 1 (sym (ap faults_by e)))
     (all_more is_well ends end) (all_more went_out ends end)
 
-pub more_counts : (ends : List CheckEnding) (total result : Total) (end : CheckEnding) (counts : Counts) → end.answer ≡ Ok counts → result ≡ with_counts counts end.ending total → total ≡ total_of ends
+pub more_counts : (ends : List CheckEnding) (total result : Total) (end : CheckEnding) (counts : VerdictCounts) → end.answer ≡ Ok counts → result ≡ with_counts counts end.ending total → total ≡ total_of ends
     → result ≡ total_of (ends ++ end ∷ [])
 more_counts ends total result end counts e is t = is ∙ ap (with_counts counts end.ending) t ∙ counts_more ends end counts e
 

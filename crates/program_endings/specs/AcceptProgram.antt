@@ -7,7 +7,7 @@ use Rattle.sheet_check.specs.Check.{passage}
 use Rattle.sheet_check.specs.Evaluated.{OneByOne}
 use Rattle.check_report.specs.declared.chosen.Chosen.{Chosen}
 use Rattle.check_report.specs.declared.request.Request.{Request}
-use Rattle.check_report.specs.declared.verdict.Counts.{Counts}
+use Rattle.check_report.specs.declared.verdict.VerdictCounts.{VerdictCounts}
 use Rattle.driver.specs.Place.{SourceRules}
 use Rattle.offline_programs.specs.Saying.{Saying}
 use Rattle.offline_programs.specs.declared.fault.RunFault.TheVariants as fault
@@ -20,11 +20,11 @@ use Rattle.program_endings.specs.declared.ending.Ending.{Ending}
 use Rattle.sheet_files.specs.declared.files_fault.FilesFault.{FilesFault}
 
 -- no field was left unanswered, and where those of one session are asked for, any was checked
-abbrev pub accepts_all : Chosen → Counts → Bool
+abbrev pub accepts_all : Chosen → VerdictCounts → Bool
 accepts_all chosen counts = (counts.unanswered == 0) && finds_any chosen counts
 
 -- what the program answers: all is well where each output that is compared is the same, or was accepted
-abbrev pub answer_of_acceptance : Chosen → Result Counts CheckFault → CheckedAnswer
+abbrev pub answer_of_acceptance : Chosen → Result VerdictCounts CheckFault → CheckedAnswer
 answer_of_acceptance chosen (Ok counts) = Ok (accepts_all chosen counts)
 answer_of_acceptance chosen (Err why) = Err why
 
@@ -45,7 +45,7 @@ pub record AcceptDone {D C W E : Type 0} (o : AcceptSetting) (r : ProgramRun D C
   -- the disk, as it was closed
   pub later : D
   pub closed : r.given.how.closed later
-  pub answer : Result Counts CheckFault
+  pub answer : Result VerdictCounts CheckFault
   pub accepted : AcceptAnswer (accepting_from r.rules o.request) (acceptance o.held (view_given r.given) (r.given.how.view later)) (passage r.called.old r.called.new (text_before r.wrote) (text_after r.wrote))
       (DoesNothing r.called r.wrote) answer
   -- that the disk failed at the opening is reported only where it did

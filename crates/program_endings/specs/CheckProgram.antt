@@ -5,10 +5,10 @@ use Rattle.journal.specs.declared.opening.OpenCause.TheVariants as opens
 use Rattle.sheet_check.specs.Check.{CheckAnswer, OnlyRead, passage}
 use Rattle.sheet_check.specs.Evaluated.{OneByOne, checking_by}
 use Rattle.check_report.specs.declared.chosen.Chosen.{Chosen}
-use Rattle.check_report.specs.declared.report.Format.{Format}
-use Rattle.check_report.specs.declared.report.Format.TheVariants as format
+use Rattle.check_report.specs.declared.report.ReportFormat.{ReportFormat}
+use Rattle.check_report.specs.declared.report.ReportFormat.TheVariants as format
 use Rattle.check_report.specs.declared.request.Request.{Request}
-use Rattle.check_report.specs.declared.verdict.Counts.{Counts}
+use Rattle.check_report.specs.declared.verdict.VerdictCounts.{VerdictCounts}
 use Rattle.check_report.specs.Verdicts.{total}
 use Rattle.driver.specs.Place.{SourceRules}
 use Rattle.evaluation.specs.declared.fault.EvalFault.TheVariants as evals
@@ -22,24 +22,24 @@ use Rattle.program_endings.specs.Faults.{no_files}
 use Rattle.program_endings.specs.LiveProgram.{LastReported}
 use Rattle.program_endings.specs.declared.ending.Ending.{Ending}
 use Rattle.tellings.specs.Json.{in_json}
-use Rattle.tellings.specs.declared.note.Frame.TheVariants as frame
+use Rattle.tellings.specs.declared.note.Boundary.TheVariants as frame
 use Rattle.program_endings.specs.Records.{DoesNothing, ProgramPassage, ProgramRun, Writing, run_on, run_since, run_until, text_before, view_given}
 use Rattle.program_endings.specs.declared.check_program.CheckEnding.{CheckEnding}
 use Rattle.sheet_files.specs.declared.files_fault.FilesFault.{FilesFault}
 
 -- no output differs, and no field was left unanswered
-abbrev pub all_same : Counts → Bool
+abbrev pub all_same : VerdictCounts → Bool
 all_same counts = (counts.differ == 0) && (counts.unanswered == 0)
 
 -- where the fields of one session are asked for, any was checked: so a name that no session has ends badly
-abbrev pub any_of : Option (List ℕ) → Counts → Bool
+abbrev pub any_of : Option (List ℕ) → VerdictCounts → Bool
 any_of None counts = true
 any_of (Some session) counts = nat_lt 0 (total counts)
 
-abbrev pub finds_any : Chosen → Counts → Bool
+abbrev pub finds_any : Chosen → VerdictCounts → Bool
 finds_any chosen counts = any_of chosen.only counts
 
-abbrev pub check_passes : Chosen → Counts → Bool
+abbrev pub check_passes : Chosen → VerdictCounts → Bool
 check_passes chosen counts = all_same counts && finds_any chosen counts
 
 -- what a check answers: whether all is well, or its fault
@@ -53,7 +53,7 @@ EndsChecked errors ending (Err (checks.Run why)) = EndsAs errors ending (Err why
 EndsChecked errors ending (Err (checks.NoField id)) = (ending.status ≡ 1) × TellsEval errors ending.reported (Err (evals.NoField id))
 
 -- what the program answers: all is well where all outputs that are compared are the same
-abbrev pub answer_of_check : Chosen → Result Counts CheckFault → CheckedAnswer
+abbrev pub answer_of_check : Chosen → Result VerdictCounts CheckFault → CheckedAnswer
 answer_of_check chosen (Ok counts) = Ok (check_passes chosen counts)
 answer_of_check chosen (Err why) = Err why
 
@@ -63,7 +63,7 @@ LastInJson w reported (Ok passed) = w.new ≡ w.old
 LastInJson w reported (Err (checks.Run why)) = LastReported {T = Bool} in_json w.contents w.old w.new reported (Err why)
 LastInJson w reported (Err (checks.NoField id)) = FramedLast in_json w.contents w.old w.new reported (frame.NoField id)
 
-abbrev pub LastOfCheck : {W : Type 0} → Format → Writing W → Bool → CheckedAnswer → Type 0
+abbrev pub LastOfCheck : {W : Type 0} → ReportFormat → Writing W → Bool → CheckedAnswer → Type 0
 LastOfCheck format.Json w reported answer = LastInJson w reported answer
 LastOfCheck format.Text w reported answer = w.new ≡ w.old
 LastOfCheck format.Whole w reported answer = w.new ≡ w.old
@@ -92,7 +92,7 @@ pub record CheckDone {D C W E : Type 0} (request : Request) (r : ProgramRun D C 
   pub ends : EndsChecked e end.ending (answer_of_check request.chosen end.answer)
 
 -- how `check` ends where its files weren't opened: no child is called, and why is its fault
-abbrev pub CheckUnopened : {D C W E : Type 0} → Format → ProgramPassage D C W → Saying E → CheckEnding → FilesFault → Type 0
+abbrev pub CheckUnopened : {D C W E : Type 0} → ReportFormat → ProgramPassage D C W → Saying E → CheckEnding → FilesFault → Type 0
 CheckUnopened F p e end why = (p.called.new ≡ p.called.old) × (end.answer ≡ Err (checks.Run (no_files why))) × LastOfCheck F p.wrote end.ending.reported (Err (checks.Run (no_files why)))
     × EndsAs e end.ending (Err (no_files why))
 

@@ -6,8 +6,8 @@ use Rattle.offline_programs.specs.Saying.{IsSaid, Saying}
 use Rattle.offline_programs.specs.declared.fault.RunFault.{RunFault}
 use Rattle.tellings.specs.Voice.{Voice}
 use Rattle.tellings.specs.declared.note.Counts.{Counts}
-use Rattle.tellings.specs.declared.note.Frame.{Frame}
-use Rattle.tellings.specs.declared.note.Frame.TheVariants as frame
+use Rattle.tellings.specs.declared.note.Boundary.{Boundary}
+use Rattle.tellings.specs.declared.note.Boundary.TheVariants as frame
 use Rattle.tellings.specs.declared.note.Overs.{Overs}
 use Rattle.driver.specs.Noted.{PrintedSoFar, noting_rules, printed_so_far}
 use Rattle.driver.specs.Over.{Over, program_parts}
@@ -95,7 +95,7 @@ pub record EvaluatesTo {D C O P : Type 0} (o : EvalSetting P) (r : ProgramRun D 
   pub answers : AnswersAfter run fields.stage answer
 
 -- what stands last is written whole where both streams took what they had to, and it is nothing where the voice takes no memory
-abbrev pub FramedLast : {O : Type 0} → Voice → (O → Option (List ℕ)) → O → O → Bool → Frame → Type 0
+abbrev pub FramedLast : {O : Type 0} → Voice → (O → Option (List ℕ)) → O → O → Bool → Boundary → Type 0
 FramedLast V contents old new reported last = (V.takes_memory ≡ false → new ≡ old) × (reported ≡ true → Appends (contents old) (contents new) (V.frame last))
 
 -- That the evaluation came to its end is printed last; or it couldn't be, and that is the fault, which is printed last.

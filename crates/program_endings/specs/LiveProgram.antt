@@ -14,8 +14,8 @@ use Rattle.offline_programs.specs.declared.fault.RunFault.{RunFault}
 use Rattle.offline_programs.specs.declared.fault.RunFault.TheVariants as fault
 use Rattle.sheet_files.specs.declared.files_fault.FilesFault.{FilesFault}
 use Rattle.tellings.specs.Voice.{IsWithheld, Voice}
-use Rattle.tellings.specs.declared.note.Frame.{Frame}
-use Rattle.tellings.specs.declared.note.Frame.TheVariants as frame
+use Rattle.tellings.specs.declared.note.Boundary.{Boundary}
+use Rattle.tellings.specs.declared.note.Boundary.TheVariants as frame
 use Rattle.program_endings.specs.Ending.{EndsAs}
 use Rattle.program_endings.specs.Faults.{no_files}
 use Rattle.program_endings.specs.Records.{ProgramPassage, ProgramRun, Writing, run_on, run_since, run_until, text_after, text_before, view_given, writing}
@@ -66,7 +66,7 @@ is_printed fault.InUse = true
 is_printed fault.SecondFile = true
 
 -- this frame was written, where the voice has one
-abbrev pub Framed : {O : Type 0} → Voice → (O → Option (List ℕ)) → Frame → O → O → Type 0
+abbrev pub Framed : {O : Type 0} → Voice → (O → Option (List ℕ)) → Boundary → O → O → Type 0
 Framed V contents f old new = Appends (contents old) (contents new) (V.frame f) × (V.takes_memory ≡ false → new ≡ old)
 
 -- A fault is printed last of all, where the voice has a text for it and the output takes it.

@@ -4,7 +4,7 @@ use Rattle.std.specs.Fmt.{decimal}
 use Rattle.std.specs.Io.KnownBytes.{Appends}
 use Rattle.std.specs.List.{list_all, sum_by}
 use Rattle.sheet_text.specs.Escape.{on_line}
-use Rattle.check_report.specs.declared.verdict.Counts.{Counts}
+use Rattle.check_report.specs.declared.verdict.VerdictCounts.{VerdictCounts}
 use Rattle.check_report.specs.Words.{errors_part, new_part}
 use Rattle.offline_programs.specs.declared.fault.RunFault.{RunFault}
 use Rattle.offline_programs.specs.declared.fault.RunFault.TheVariants as fault
@@ -21,15 +21,15 @@ abbrev pub worksheet_line : List ℕ → List ℕ
 worksheet_line path = codes "worksheet " ++ on_line path ++ 10 ∷ []
 
 -- how many fields of a worksheet came to something; of one whose check met a fault none is counted
-abbrev pub counted_by : (Counts → ℕ) → Result Counts CheckFault → ℕ
+abbrev pub counted_by : (VerdictCounts → ℕ) → Result VerdictCounts CheckFault → ℕ
 counted_by part (Ok counts) = part counts
 counted_by part (Err why) = 0
 
-abbrev pub counted_in : (Counts → ℕ) → CheckEnding → ℕ
+abbrev pub counted_in : (VerdictCounts → ℕ) → CheckEnding → ℕ
 counted_in part end = counted_by part end.answer
 
 -- 1 where its check met a fault
-abbrev pub faults_by : Result Counts CheckFault → ℕ
+abbrev pub faults_by : Result VerdictCounts CheckFault → ℕ
 faults_by (Ok counts) = 0
 faults_by (Err why) = 1
 
@@ -99,7 +99,7 @@ failed_output (fault.Open why) = false
 failed_output fault.InUse = false
 failed_output fault.SecondFile = false
 
-abbrev pub is_unwritten : Result Counts CheckFault → Bool
+abbrev pub is_unwritten : Result VerdictCounts CheckFault → Bool
 is_unwritten (Ok counts) = false
 is_unwritten (Err (checks.NoField id)) = false
 is_unwritten (Err (checks.Run why)) = failed_output why

@@ -1,26 +1,26 @@
 //! The program `check --accept` over a worksheet's files, from its files on.
 ghost use Rattle.std.specs.Prelude.{◌≡◌, Result};
-ghost use Rattle.check_report.specs.declared.verdict.Counts.{Counts};
+ghost use Rattle.check_report.specs.declared.verdict.VerdictCounts.{VerdictCounts};
 ghost use Rattle.program_endings.specs.AcceptProgram.{AcceptDone, AcceptEnds, accept_setting, accepts_all, answer_of_acceptance};
 ghost use Rattle.program_endings.specs.CheckProgram.{EndsChecked};
 ghost use Rattle.program_endings.specs.Passing.{passed, run};
 
 use crate::check_program::{end_in_words, found_any};
-use crate::passing::{Given, GivenBack};
+use crate::passing::{GivenBack, Resources};
 use crate::seeing::{Heard, Kinds};
 use crate::telling::no_files;
 use crate::{Ending, end_program};
 use arrivals::Sources;
-use check_report::{Chosen, Counts};
+use check_report::{Chosen, VerdictCounts};
 use driver::Stamped;
 use offline_programs::Says;
-use script_agenda::Outside;
-use sheet_check::{CheckFault, Checked, Manner, Progress, check_accepting};
+use script_agenda::RunResources;
+use sheet_check::{CheckFault, CheckManner, Checked, Progress, check_accepting};
 use sheet_files::Close;
 
 /// Whether a check that accepts ends well: no field was left unanswered, and, where those of one session
 /// are asked for, any was checked.
-fn are_accepted(chosen: &Chosen, counts: Counts) -> bool
+fn are_accepted(chosen: &Chosen, counts: VerdictCounts) -> bool
     ensures { result ≡ accepts_all chosen.now counts }
 {
     counts.unanswered == 0 && found_any(chosen, counts)
@@ -29,7 +29,7 @@ fn are_accepted(chosen: &Chosen, counts: Counts) -> bool
 /// Ends the program by what a check that accepts answered.
 fn end_acceptance<E: Says>(
     chosen: &Chosen,
-    answer: Result<Counts, CheckFault>,
+    answer: Result<VerdictCounts, CheckFault>,
     errors: &mut E,
 ) -> Ending
     ensures { EndsChecked (⟦<E as Heard>⟧.said errors.old errors.new) result
@@ -43,15 +43,15 @@ fn end_acceptance<E: Says>(
 
 /// Checks the worksheet on a disk and accepts what differs, and closes the disk at the end.
 fn accept_on<D: Close, C: Sources, P: Progress, W: Stamped, E: Says>(
-    manner: &Manner<'_>,
-    outside: Outside<D, C, W>,
+    manner: &CheckManner<'_>,
+    outside: RunResources<D, C, W>,
     progress: &mut P,
     errors: &mut E,
 ) -> GivenBack<Ending, C, W>
     ensures { AcceptDone (accept_setting manner.now.request.now W.held) (run ⟦<(D, C, W) as Kinds>⟧.seen outside result)
         (⟦<E as Heard>⟧.said errors.old errors.new) result.ending }
 {
-    let Outside {
+    let RunResources {
         disk,
         sources,
         mut output,
@@ -73,8 +73,8 @@ fn accept_on<D: Close, C: Sources, P: Progress, W: Stamped, E: Says>(
 /// opened: the report goes to the output, each part flushed once what it tells is on the disk, and the
 /// line of a fault to `errors`. `progress` shows how far it is, and nothing at its end. Sources and output are given back.
 pub fn run_accept<D: Close, C: Sources, P: Progress, W: Stamped, E: Says>(
-    manner: &Manner<'_>,
-    given: Given<D, C, W>,
+    manner: &CheckManner<'_>,
+    given: Resources<D, C, W>,
     progress: &mut P,
     errors: &mut E,
 ) -> GivenBack<Ending, C, W>
@@ -82,14 +82,14 @@ pub fn run_accept<D: Close, C: Sources, P: Progress, W: Stamped, E: Says>(
         (passed ⟦<(D, C, W) as Kinds>⟧.seen given result)
         (⟦<E as Heard>⟧.said errors.old errors.new) result.ending }
 {
-    let Given {
+    let Resources {
         files,
         sources,
         output,
     } = given;
     match files {
         Ok(disk) => {
-            let outside = Outside {
+            let outside = RunResources {
                 disk,
                 sources,
                 output,

@@ -1,6 +1,6 @@
 //! The program `check` over a worksheet's files, from its files on.
 ghost use Rattle.std.specs.Prelude.{◌≡◌, Err, Result};
-ghost use Rattle.check_report.specs.declared.verdict.Counts.{Counts};
+ghost use Rattle.check_report.specs.declared.verdict.VerdictCounts.{VerdictCounts};
 ghost use Rattle.sheet_check.specs.declared.named.CheckFault.TheVariants as checks;
 ghost use Rattle.program_endings.specs.Ending.{EndsAs};
 ghost use Rattle.program_endings.specs.CheckProgram.{CheckDone, CheckEnds, EndsChecked, LastInJson, LastOfCheck, all_same, answer_of_check, check_passes, finds_any};
@@ -12,39 +12,39 @@ use crate::ending::ended;
 use crate::eval_program::end_without;
 use crate::live_program::end_reported;
 use crate::messages::NotEvaluated;
-use crate::passing::{Given, GivenBack};
+use crate::passing::{GivenBack, Resources};
 use crate::seeing::{Heard, Kinds};
 use crate::telling::no_files;
 use crate::{Ending, end_program};
 use arrivals::Sources;
-use check_report::{Chosen, Counts, Format};
+use check_report::{Chosen, ReportFormat, VerdictCounts};
 use evaluation::EvalFault;
 use offline_programs::Says;
-use script_agenda::Outside;
-use sheet_check::{CheckFault, Checked, Manner, Progress, check};
+use script_agenda::RunResources;
+use sheet_check::{CheckFault, CheckManner, Checked, Progress, check};
 use sheet_files::{Close, FilesFault};
 use std::alloc::Global;
 use std::io::Write;
-use tellings::{Frame, InJson};
+use tellings::{Boundary, InJson};
 
 /// How a check of one worksheet ended.
 #[derive(Clone, Copy, Debug, PartialEq, Eq)]
 pub struct CheckEnding {
     /// How many evaluations came to what, or the fault that the check met.
-    pub answer: Result<Counts, CheckFault>,
+    pub answer: Result<VerdictCounts, CheckFault>,
     /// How the program ends that checks this worksheet alone.
     pub ending: Ending,
 }
 
 /// Whether no output differs, and no field was left unanswered.
-fn are_same(counts: Counts) -> bool
+fn are_same(counts: VerdictCounts) -> bool
     ensures { result ≡ all_same counts }
 {
     counts.differ == 0 && counts.unanswered == 0
 }
 
 /// Whether any field was checked, where those of one session are asked for.
-pub(crate) fn found_any(chosen: &Chosen, counts: Counts) -> bool
+pub(crate) fn found_any(chosen: &Chosen, counts: VerdictCounts) -> bool
     ensures { result ≡ finds_any chosen.now counts }
 {
     match &chosen.only {
@@ -54,7 +54,7 @@ pub(crate) fn found_any(chosen: &Chosen, counts: Counts) -> bool
 }
 
 /// Whether a check ends well.
-fn is_passed(chosen: &Chosen, counts: Counts) -> bool
+fn is_passed(chosen: &Chosen, counts: VerdictCounts) -> bool
     ensures { result ≡ check_passes chosen.now counts }
 {
     are_same(counts) && found_any(chosen, counts)
@@ -95,7 +95,7 @@ fn end_in_json<W: Write, E: Says>(
         Err(CheckFault::Run(why)) => end_reported(Err(why), &InJson { alloc }, output, errors),
         Err(CheckFault::NoField(id)) => end_without(
             EvalFault::NoField(id),
-            Frame::NoField(id),
+            Boundary::NoField(id),
             &InJson { alloc },
             output,
             errors,
@@ -106,7 +106,7 @@ fn end_in_json<W: Write, E: Says>(
 /// Ends the program by what it answered: a fault is printed on both streams where the report is JSON.
 fn end_report<W: Write, E: Says>(
     alloc: Global,
-    format: Format,
+    format: ReportFormat,
     answer: Result<bool, CheckFault>,
     output: &mut W,
     errors: &mut E,
@@ -116,17 +116,19 @@ fn end_report<W: Write, E: Says>(
     ensures ends { EndsChecked (⟦<E as Heard>⟧.said errors.old errors.new) result answer }
 {
     match format {
-        Format::Json => end_in_json(alloc, answer, output, errors),
-        Format::Text | Format::Whole | Format::Tap | Format::Junit | Format::Accepting => {
-            end_in_words(answer, errors)
-        }
+        ReportFormat::Json => end_in_json(alloc, answer, output, errors),
+        ReportFormat::Text
+        | ReportFormat::Whole
+        | ReportFormat::Tap
+        | ReportFormat::Junit
+        | ReportFormat::Accepting => end_in_words(answer, errors),
     }
 }
 
 /// Ends the program by what a check answered.
 pub(crate) fn end_check<W: Write, E: Says>(
-    manner: &Manner<'_>,
-    answer: Result<Counts, CheckFault>,
+    manner: &CheckManner<'_>,
+    answer: Result<VerdictCounts, CheckFault>,
     output: &mut W,
     errors: &mut E,
 ) -> Ending
@@ -145,7 +147,7 @@ pub(crate) fn end_check<W: Write, E: Says>(
 
 /// Ends the program where the files of its worksheet weren't opened.
 pub(crate) fn end_unopened<W: Write, E: Says>(
-    manner: &Manner<'_>,
+    manner: &CheckManner<'_>,
     why: FilesFault,
     output: &mut W,
     errors: &mut E,
@@ -173,15 +175,15 @@ pub(crate) fn end_unopened<W: Write, E: Says>(
 
 /// Checks the worksheet on a disk, and closes the disk at the end.
 fn check_on<D: Close, C: Sources, P: Progress, W: Write, E: Says>(
-    manner: &Manner<'_>,
-    outside: Outside<D, C, W>,
+    manner: &CheckManner<'_>,
+    outside: RunResources<D, C, W>,
     progress: &mut P,
     errors: &mut E,
 ) -> GivenBack<CheckEnding, C, W>
     ensures { CheckDone manner.now.request.now (run ⟦<(D, C, W) as Kinds>⟧.seen outside result)
         (⟦<E as Heard>⟧.said errors.old errors.new) result.ending }
 {
-    let Outside {
+    let RunResources {
         disk,
         sources,
         mut output,
@@ -205,8 +207,8 @@ fn check_on<D: Close, C: Sources, P: Progress, W: Write, E: Says>(
 /// last. `progress` shows how far it is, and nothing at its end. What the check answered is
 /// given beside how the program ends, and sources and output are given back.
 pub fn run_check<D: Close, C: Sources, P: Progress, W: Write, E: Says>(
-    manner: &Manner<'_>,
-    given: Given<D, C, W>,
+    manner: &CheckManner<'_>,
+    given: Resources<D, C, W>,
     progress: &mut P,
     errors: &mut E,
 ) -> GivenBack<CheckEnding, C, W>
@@ -214,14 +216,14 @@ pub fn run_check<D: Close, C: Sources, P: Progress, W: Write, E: Says>(
         (passed ⟦<(D, C, W) as Kinds>⟧.seen given result)
         (⟦<E as Heard>⟧.said errors.old errors.new) result.ending }
 {
-    let Given {
+    let Resources {
         files,
         sources,
         mut output,
     } = given;
     match files {
         Ok(disk) => {
-            let outside = Outside {
+            let outside = RunResources {
                 disk,
                 sources,
                 output,

@@ -11,7 +11,7 @@ ghost use Rattle.program_endings.specs.Passing.{passed, run, run_so_far};
 use crate::ending::ended;
 use crate::live_program::{end_reported, is_printed, with_last};
 use crate::messages::{NotEvaluated, StoppedAt};
-use crate::passing::{Answered, Given, GivenBack};
+use crate::passing::{Completed, GivenBack, Resources};
 use crate::seeing::{Both, Heard, Kinds};
 use crate::telling::no_files;
 use crate::{Ending, end_program};
@@ -20,11 +20,11 @@ use driver::{OverStream, Stamped, Voiced, run_voiced};
 use evaluation::{EvalEnd, EvalFault, Plan, Programs};
 use field_agenda::{ByFields, FieldLines, Stage};
 use offline_programs::{RunFault, Says};
-use script_agenda::Outside;
+use script_agenda::RunResources;
 use sheet_files::Close;
 use std::alloc::Global;
 use std::io::Write;
-use tellings::{Counts, Frame, Overs, Tells};
+use tellings::{Boundary, Counts, Overs, Tells};
 
 /// Whether no field's time was over, and none was passed over.
 fn are_none(overs: Option<Overs>) -> bool
@@ -58,7 +58,7 @@ pub struct FieldSetting<T> {
 }
 
 /// What an evaluation answered.
-type Evaluated<S, W> = Answered<Result<EvalEnd, EvalFault>, S, W>;
+type Evaluated<S, W> = Completed<Result<EvalEnd, EvalFault>, S, W>;
 
 /// What the program answers after a run that came to its end so.
 fn answer_at(stage: Stage) -> Result<EvalEnd, EvalFault>
@@ -89,7 +89,7 @@ fn answer_after(run: Result<(), RunFault>, stage: Stage) -> Result<EvalEnd, Eval
 fn evaluate_on<W: Stamped, D: Close, S: Sources, T: Tells + Copy, P: Programs + Drop>(
     setting: FieldSetting<T>,
     programs: P,
-    outside: Outside<D, S, W>,
+    outside: RunResources<D, S, W>,
 ) -> Evaluated<S, W>
     ensures { EvaluatesTo (eval_setting setting.plan programs P.finds T.voice W.held)
         (run_so_far ⟦<(D, S, W) as Kinds>⟧.seen outside result) result.whole result.answer }
@@ -110,7 +110,7 @@ fn evaluate_on<W: Stamped, D: Close, S: Sources, T: Tells + Copy, P: Programs + 
     } = run_voiced(alloc, outside.disk, outside.sources, voiced, agenda);
     disk.close();
     let stage = agenda.stage();
-    Answered {
+    Completed {
         answer: answer_after(answer, stage),
         whole,
         sources,
@@ -134,7 +134,7 @@ fn end_evaluated<E: Says>(end: EvalEnd, errors: &mut E) -> Ending
 /// what stands last on one, and as its line on the other.
 pub(crate) fn end_without<W: Write, E: Says, T: Tells>(
     why: EvalFault,
-    last: Frame,
+    last: Boundary,
     tells: &T,
     output: &mut W,
     errors: &mut E,
@@ -206,14 +206,14 @@ fn end_faulty<W: Write, E: Says, T: Tells>(
     match fault {
         EvalFault::NoField(id) => end_without(
             EvalFault::NoField(id),
-            Frame::NoField(id),
+            Boundary::NoField(id),
             tells,
             output,
             errors,
         ),
         EvalFault::NoProgram(name) => end_without(
             EvalFault::NoProgram(name),
-            Frame::NoProgram(name),
+            Boundary::NoProgram(name),
             tells,
             output,
             errors,
@@ -232,7 +232,7 @@ fn end_framed<W: Write, E: Says, T: Tells>(
     ensures { LastOfEnd T.voice
         (⟦<(W, E) as Both>⟧.streams output.old output.new errors.old errors.new) result end }
 {
-    match tells.frame(Frame::End, output) {
+    match tells.frame(Boundary::End, output) {
         Ok(()) => end_evaluated(end, errors),
         Err(why) => end_reported(Err(why), tells, output, errors),
     }
@@ -260,7 +260,7 @@ fn end_evaluation<W: Write, E: Says, T: Tells>(
 fn end_on<W: Stamped, E: Says, D: Close, S: Sources, T: Tells + Copy, P: Programs + Drop>(
     setting: FieldSetting<T>,
     programs: P,
-    outside: Outside<D, S, W>,
+    outside: RunResources<D, S, W>,
     errors: &mut E,
 ) -> GivenBack<Ending, S, W>
     ensures { EvaluationBegun (eval_setting setting.plan programs P.finds T.voice W.held)
@@ -268,7 +268,7 @@ fn end_on<W: Stamped, E: Says, D: Close, S: Sources, T: Tells + Copy, P: Program
         result.ending }
 {
     let tells = setting.tells;
-    let Answered {
+    let Completed {
         answer,
         whole,
         sources,
@@ -285,17 +285,17 @@ fn end_on<W: Stamped, E: Says, D: Close, S: Sources, T: Tells + Copy, P: Program
 fn end_greeted<W: Stamped, E: Says, D: Close, S: Sources, T: Tells + Copy, P: Programs + Drop>(
     setting: FieldSetting<T>,
     programs: P,
-    mut outside: Outside<D, S, W>,
+    mut outside: RunResources<D, S, W>,
     errors: &mut E,
 ) -> GivenBack<Ending, S, W>
     ensures { EvaluationEnded (eval_setting setting.plan programs P.finds T.voice W.held)
         (run ⟦<(D, S, W) as Kinds>⟧.seen outside result) (⟦<E as Heard>⟧.said errors.old errors.new)
         result.ending }
 {
-    match setting.tells.frame(Frame::Hello, &mut outside.output) {
+    match setting.tells.frame(Boundary::Hello, &mut outside.output) {
         Ok(()) => end_on(setting, programs, outside, errors),
         Err(why) => {
-            let Outside {
+            let RunResources {
                 disk,
                 sources,
                 mut output,
@@ -324,7 +324,7 @@ pub fn run_evaluation<
 >(
     setting: FieldSetting<T>,
     programs: P,
-    given: Given<D, S, W>,
+    given: Resources<D, S, W>,
     errors: &mut E,
 ) -> GivenBack<Ending, S, W>
     ensures unopened { IfErr given.files
@@ -336,14 +336,14 @@ pub fn run_evaluation<
         (passed ⟦<(D, S, W) as Kinds>⟧.seen given result)
         (⟦<E as Heard>⟧.said errors.old errors.new) result.ending) }
 {
-    let Given {
+    let Resources {
         files,
         sources,
         mut output,
     } = given;
     match files {
         Ok(disk) => {
-            let outside = Outside {
+            let outside = RunResources {
                 disk,
                 sources,
                 output,

@@ -31,7 +31,7 @@ pub use ending::{Ending, end_program, run_blocks};
 pub use eval_program::{FieldSetting, run_evaluation};
 pub use export_program::{ExportForm, run_export};
 pub use live_program::{LineSetting, run_live};
-pub use passing::{Given, GivenBack};
+pub use passing::{GivenBack, Resources};
 pub use past_program::{end_past, read_past, run_export_past, run_history, run_show_past};
 pub use programs::{run_create, run_show};
 pub use rescue_program::{read_rescued, run_rescue};

@@ -9,7 +9,7 @@ ghost use Rattle.program_endings.specs.Records.{writing};
 ghost use Rattle.program_endings.specs.StrictProgram.{TellsStop, strict_status};
 ghost use Rattle.program_endings.specs.Passing.{passed, run, run_so_far};
 
-use crate::passing::{Answered, Given, GivenBack};
+use crate::passing::{Completed, GivenBack, Resources};
 use crate::seeing::{Heard, Kinds};
 use crate::strict_program::end_strict;
 use crate::telling::no_files;
@@ -19,11 +19,11 @@ use driver::{OverStream, Stamped, Voiced, run_voiced};
 use line_agenda::ByLines;
 use live::Manner;
 use offline_programs::{RunFault, Says};
-use script_agenda::Outside;
+use script_agenda::RunResources;
 use sheet_files::Close;
 use std::alloc::Global;
 use std::io::{Read, Write};
-use tellings::{Frame, Tells};
+use tellings::{Boundary, Tells};
 
 /// How the lines of an input are taken, and how what comes of them is printed.
 #[derive(Clone, Copy)]
@@ -36,7 +36,7 @@ pub struct LineSetting<T> {
 }
 
 /// What a run of lines answered: the number of the line after which a strict one stopped, if it did.
-type Lived<S, W> = Answered<Result<Option<u64>, RunFault>, S, W>;
+type Lived<S, W> = Completed<Result<Option<u64>, RunFault>, S, W>;
 
 /// A fault is printed last.
 fn with_fault<S, W: Write, T: Tells + Copy>(
@@ -50,7 +50,7 @@ fn with_fault<S, W: Write, T: Tells + Copy>(
     ensures sources { result.sources ≡ sources }
 {
     let whole = tells.fault(why, &mut output);
-    Answered {
+    Completed {
         answer: Err(why),
         whole,
         sources,
@@ -88,7 +88,7 @@ fn answer_after(run: Result<(), RunFault>, stopped: Option<u64>) -> Result<Optio
 fn live_on<R: Read, W: Stamped, D: Close, S: Sources, T: Tells + Copy>(
     setting: LineSetting<T>,
     lines: InputLines<R>,
-    outside: Outside<D, S, W>,
+    outside: RunResources<D, S, W>,
 ) -> Lived<S, W>
 where
     R: Drop,
@@ -111,7 +111,7 @@ where
     } = run_voiced(setting.alloc, outside.disk, outside.sources, voiced, agenda);
     disk.close();
     let stopped = agenda.stopped_at();
-    Answered {
+    Completed {
         answer: answer_after(answer, stopped),
         whole,
         sources,
@@ -130,8 +130,8 @@ fn with_end<S, W: Write, T: Tells + Copy>(
         stopped result.answer }
     ensures sources { result.sources ≡ sources }
 {
-    match tells.frame(Frame::End, &mut output) {
-        Ok(()) => Answered {
+    match tells.frame(Boundary::End, &mut output) {
+        Ok(()) => Completed {
             answer: Ok(stopped),
             whole: true,
             sources,
@@ -155,7 +155,7 @@ fn with_run_fault<S, W: Write, T: Tells + Copy>(
     ensures sources { result.sources ≡ sources }
 {
     if is_printed(why) {
-        return Answered {
+        return Completed {
             answer: Err(why),
             whole,
             sources,
@@ -171,7 +171,7 @@ fn end_lived<S, W: Write, T: Tells + Copy>(lived: Lived<S, W>, tells: T) -> Live
         lived.whole result.whole result.answer }
     ensures sources { result.sources ≡ lived.sources }
 {
-    let Answered {
+    let Completed {
         answer,
         whole,
         sources,
@@ -187,7 +187,7 @@ fn end_lived<S, W: Write, T: Tells + Copy>(lived: Lived<S, W>, tells: T) -> Live
 fn live_lines<R: Read, W: Stamped, D: Close, S: Sources, T: Tells + Copy>(
     setting: LineSetting<T>,
     lines: InputLines<R>,
-    outside: Outside<D, S, W>,
+    outside: RunResources<D, S, W>,
 ) -> Lived<S, W>
 where
     R: Drop,
@@ -203,7 +203,7 @@ where
 fn live_read<R: Read, W: Stamped, D: Close, S: Sources, T: Tells + Copy>(
     setting: LineSetting<T>,
     input: &mut R,
-    outside: Outside<D, S, W>,
+    outside: RunResources<D, S, W>,
 ) -> Lived<S, W>
     ensures { LiveBegun (live_setting setting.manner T.voice W.held) (R.remaining input.old)
         (run_so_far ⟦<(D, S, W) as Kinds>⟧.seen outside result) result.whole result.answer }
@@ -226,12 +226,12 @@ fn live_read<R: Read, W: Stamped, D: Close, S: Sources, T: Tells + Copy>(
 fn live_framed<R: Read, W: Stamped, D: Close, S: Sources, T: Tells + Copy>(
     setting: LineSetting<T>,
     input: &mut R,
-    mut outside: Outside<D, S, W>,
+    mut outside: RunResources<D, S, W>,
 ) -> Lived<S, W>
     ensures { LiveAnswer (live_setting setting.manner T.voice W.held) (R.remaining input.old)
         (run_so_far ⟦<(D, S, W) as Kinds>⟧.seen outside result) result.whole result.answer }
 {
-    match setting.tells.frame(Frame::Hello, &mut outside.output) {
+    match setting.tells.frame(Boundary::Hello, &mut outside.output) {
         Ok(()) => live_read(setting, input, outside),
         Err(why) => {
             outside.disk.close();
@@ -296,14 +296,14 @@ fn end_stopped<E: Says>(answer: Result<Option<u64>, RunFault>, said: bool, error
 pub(crate) fn end_live<R: Read, W: Stamped, E: Says, D: Close, S: Sources, T: Tells + Copy>(
     setting: LineSetting<T>,
     input: &mut R,
-    outside: Outside<D, S, W>,
+    outside: RunResources<D, S, W>,
     errors: &mut E,
 ) -> GivenBack<Ending, S, W>
     ensures { LiveEnded (live_setting setting.manner T.voice W.held) (R.remaining input.old)
         (run ⟦<(D, S, W) as Kinds>⟧.seen outside result) (⟦<E as Heard>⟧.said errors.old errors.new)
         result.ending }
 {
-    let Answered {
+    let Completed {
         answer,
         whole,
         sources,
@@ -323,7 +323,7 @@ pub(crate) fn end_live<R: Read, W: Stamped, E: Says, D: Close, S: Sources, T: Te
 pub fn run_live<R: Read, W: Stamped, E: Says, D: Close, S: Sources, T: Tells + Copy>(
     setting: LineSetting<T>,
     input: &mut R,
-    given: Given<D, S, W>,
+    given: Resources<D, S, W>,
     errors: &mut E,
 ) -> GivenBack<Ending, S, W>
     // It is printed before a line is read.
@@ -337,14 +337,14 @@ pub fn run_live<R: Read, W: Stamped, E: Says, D: Close, S: Sources, T: Tells + C
         (passed ⟦<(D, S, W) as Kinds>⟧.seen given result)
         (⟦<E as Heard>⟧.said errors.old errors.new) result.ending) }
 {
-    let Given {
+    let Resources {
         files,
         sources,
         mut output,
     } = given;
     match files {
         Ok(disk) => {
-            let outside = Outside {
+            let outside = RunResources {
                 disk,
                 sources,
                 output,

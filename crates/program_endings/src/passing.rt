@@ -4,7 +4,7 @@ use sheet_files::FilesFault;
 /// What a program is given by value: the files of a worksheet, or why they weren't opened; the sources of all that comes, the
 /// interpreters among them; and the output.
 #[derive(Drop)]
-pub struct Given<D, S, W> {
+pub struct Resources<D, S, W> {
     pub files: Result<D, FilesFault>,
     pub sources: S,
     pub output: W,
@@ -19,7 +19,7 @@ pub struct GivenBack<T, S, W> {
 }
 
 /// What a program answered, whether all of its last text went out, and what it gives back.
-pub(crate) struct Answered<T, S, W> {
+pub(crate) struct Completed<T, S, W> {
     pub(crate) answer: T,
     pub(crate) whole: bool,
     pub(crate) sources: S,

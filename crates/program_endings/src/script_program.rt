@@ -7,7 +7,7 @@ ghost use Rattle.program_endings.specs.ScriptProgram.{RunsRead, RunsWhole, Scrip
 ghost use Rattle.program_endings.specs.Passing.{passed, run};
 
 use crate::live_program::{LineSetting, end_live};
-use crate::passing::{Given, GivenBack};
+use crate::passing::{GivenBack, Resources};
 use crate::seeing::{Heard, Kinds};
 use crate::strict_program::end_strict;
 use crate::telling::no_files;
@@ -17,7 +17,7 @@ use bstr::ByteSlice;
 use driver::Stamped;
 use live::{LiveLine, Manner, read_live_line};
 use offline_programs::{Says, read_input};
-use script_agenda::{Outside, Ran, run_read};
+use script_agenda::{Ran, RunResources, run_read};
 use sheet_files::Close;
 use sheet_text::LineFault;
 use std::alloc::Global;
@@ -56,7 +56,7 @@ fn run_by_lines<W: Stamped, E: Says, D: Close, S: Sources>(
     alloc: Global,
     strict: bool,
     script: &[u8],
-    outside: Outside<D, S, W>,
+    outside: RunResources<D, S, W>,
     errors: &mut E,
 ) -> GivenBack<Ending, S, W>
     ensures { LiveEnded (script_setting strict W.held) (Some script.now)
@@ -81,7 +81,7 @@ fn run_as_script<W: Stamped, E: Says, D: Close, S: Sources>(
     alloc: Global,
     strict: bool,
     script: &[u8],
-    outside: Outside<D, S, W>,
+    outside: RunResources<D, S, W>,
     errors: &mut E,
 ) -> GivenBack<Ending, S, W>
     ensures { RunsWhole (script_setting strict W.held) script.now
@@ -89,7 +89,7 @@ fn run_as_script<W: Stamped, E: Says, D: Close, S: Sources>(
         result.ending }
 {
     let Ran { outside, answer } = run_read(alloc, script, strict, outside);
-    let Outside {
+    let RunResources {
         disk,
         sources,
         output,
@@ -107,7 +107,7 @@ fn run_whole<W: Stamped, E: Says, D: Close, S: Sources>(
     alloc: Global,
     strict: bool,
     script: &[u8],
-    outside: Outside<D, S, W>,
+    outside: RunResources<D, S, W>,
     errors: &mut E,
 ) -> GivenBack<Ending, S, W>
     ensures { RunsRead (script_setting strict W.held) script.now
@@ -126,7 +126,7 @@ fn run_on<R: Read, W: Stamped, E: Says, D: Close, S: Sources>(
     alloc: Global,
     strict: bool,
     input: &mut R,
-    outside: Outside<D, S, W>,
+    outside: RunResources<D, S, W>,
     errors: &mut E,
 ) -> GivenBack<Ending, S, W>
     ensures { ScriptEnds (script_setting strict W.held) (R.remaining input.old)
@@ -136,7 +136,7 @@ fn run_on<R: Read, W: Stamped, E: Says, D: Close, S: Sources>(
     match read_input(alloc, input) {
         Ok(whole) => run_whole(alloc, strict, whole.as_slice(), outside, errors),
         Err(fault) => {
-            let Outside {
+            let RunResources {
                 disk,
                 sources,
                 output,
@@ -162,7 +162,7 @@ pub fn run_script<R: Read, W: Stamped, E: Says, D: Close, S: Sources>(
     alloc: Global,
     strict: bool,
     input: &mut R,
-    given: Given<D, S, W>,
+    given: Resources<D, S, W>,
     errors: &mut E,
 ) -> GivenBack<Ending, S, W>
     // Why there are no files is printed; the input isn't read.
@@ -176,14 +176,14 @@ pub fn run_script<R: Read, W: Stamped, E: Says, D: Close, S: Sources>(
         (passed ⟦<(D, S, W) as Kinds>⟧.seen given result)
         (⟦<E as Heard>⟧.said errors.old errors.new) result.ending) }
 {
-    let Given {
+    let Resources {
         files,
         sources,
         output,
     } = given;
     match files {
         Ok(disk) => {
-            let outside = Outside {
+            let outside = RunResources {
                 disk,
                 sources,
                 output,

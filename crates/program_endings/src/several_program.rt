@@ -15,7 +15,7 @@ use crate::check_program::CheckEnding;
 use crate::ending::ended;
 use crate::seeing::{Both, Heard};
 use crate::{Ending, end_program};
-use check_report::{Counts, write_and_flush};
+use check_report::{VerdictCounts, write_and_flush};
 use offline_programs::{RunFault, Says};
 use sheet_check::CheckFault;
 use sheet_text::{WriteFault, write_line};
@@ -72,7 +72,7 @@ impl Total {
     }
 
     /// With the counts of one worksheet more.
-    fn with_counts(self, counts: Counts, ending: Ending) -> Total
+    fn with_counts(self, counts: VerdictCounts, ending: Ending) -> Total
         requires bounded { IsBounded self }
         requires few { self.worksheets < 2 ^ 63 }
         ensures counted { result ≡ inside.with_counts counts ending self }

@@ -4,19 +4,19 @@ ghost use Rattle.program_endings.specs.TogetherProgram.{TogetherDone, TogetherEn
 ghost use Rattle.program_endings.specs.Passing.{passed, run};
 
 use crate::check_program::{CheckEnding, end_check, end_unopened};
-use crate::passing::{Given, GivenBack};
+use crate::passing::{GivenBack, Resources};
 use crate::seeing::{Heard, Kinds};
 use arrivals::Sources;
 use offline_programs::Says;
-use script_agenda::Outside;
-use sheet_check::{Beside, Checked, Progress, check_together};
+use script_agenda::RunResources;
+use sheet_check::{CheckSetup, Checked, Progress, check_together};
 use sheet_files::Close;
 use std::io::Write;
 
 /// Checks the worksheet on a disk, fields of several sessions side by side, and closes the disk at the end.
 fn check_together_on<D: Close, C: Sources, P: Progress, W: Write, E: Says>(
-    beside: &Beside<'_>,
-    outside: Outside<D, C, W>,
+    beside: &CheckSetup<'_>,
+    outside: RunResources<D, C, W>,
     progress: &mut P,
     errors: &mut E,
 ) -> GivenBack<CheckEnding, C, W>
@@ -24,7 +24,7 @@ fn check_together_on<D: Close, C: Sources, P: Progress, W: Write, E: Says>(
         (run ⟦<(D, C, W) as Kinds>⟧.seen outside result) (⟦<E as Heard>⟧.said errors.old errors.new)
         result.ending }
 {
-    let Outside {
+    let RunResources {
         disk,
         sources,
         mut output,
@@ -48,8 +48,8 @@ fn check_together_on<D: Close, C: Sources, P: Progress, W: Write, E: Says>(
 /// line of a fault to `errors`; one in JSON has the fault last. `progress` shows how far the report is, and nothing
 /// at its end. What the check answered is given beside how the program ends, and sources and output are given back.
 pub fn run_check_together<D: Close, C: Sources, P: Progress, W: Write, E: Says>(
-    beside: &Beside<'_>,
-    given: Given<D, C, W>,
+    beside: &CheckSetup<'_>,
+    given: Resources<D, C, W>,
     progress: &mut P,
     errors: &mut E,
 ) -> GivenBack<CheckEnding, C, W>
@@ -57,14 +57,14 @@ pub fn run_check_together<D: Close, C: Sources, P: Progress, W: Write, E: Says>(
         (passed ⟦<(D, C, W) as Kinds>⟧.seen given result)
         (⟦<E as Heard>⟧.said errors.old errors.new) result.ending }
 {
-    let Given {
+    let Resources {
         files,
         sources,
         mut output,
     } = given;
     match files {
         Ok(disk) => {
-            let outside = Outside {
+            let outside = RunResources {
                 disk,
                 sources,
                 output,

@@ -10,4 +10,4 @@ pub mod running;
 mod saying;
 
 pub use by_script::ByScript;
-pub use running::{Outside, Ran, run, run_read};
+pub use running::{Ran, RunResources, run, run_read};

@@ -18,7 +18,7 @@ use tellings::InWords;
 
 /// What is outside of a run: its disk, the sources of all that comes, the interpreters among them, and where it writes.
 #[derive(Drop)]
-pub struct Outside<D: Disk, S, W> {
+pub struct RunResources<D: Disk, S, W> {
     pub disk: D,
     pub sources: S,
     pub output: W,
@@ -28,7 +28,7 @@ pub struct Outside<D: Disk, S, W> {
 #[derive(Drop)]
 pub struct Ran<D: Disk, S, W> {
     /// The disk, with what was reported; the sources; and the output.
-    pub outside: Outside<D, S, W>,
+    pub outside: RunResources<D, S, W>,
     /// The number of the line after which it stopped, where it is strict and did; or why it ended early.
     pub answer: Result<Option<u64>, RunFault>,
 }
@@ -59,7 +59,7 @@ pub fn run_read<W: Stamped, D: Disk, S: Sources>(
     alloc: Global,
     script: &[u8],
     strict: bool,
-    given: Outside<D, S, W>,
+    given: RunResources<D, S, W>,
 ) -> Ran<D, S, W>
     ensures same { SameDisk (D.view given.disk) (D.view result.outside.disk) }
     ensures ran { RanScript (running_rules (source_rules S.after S.wakes S.clock) W.held) strict
@@ -67,7 +67,7 @@ pub fn run_read<W: Stamped, D: Disk, S: Sources>(
         (outside (D.view result.outside.disk) result.outside.sources
         (W.contents result.outside.output)) result.answer }
 {
-    let Outside {
+    let RunResources {
         disk,
         sources,
         output,
@@ -87,7 +87,7 @@ pub fn run_read<W: Stamped, D: Disk, S: Sources>(
     } = run_voiced(alloc, disk, sources, voiced, agenda);
     let stopped = agenda.stopped_at();
     Ran {
-        outside: Outside {
+        outside: RunResources {
             disk,
             sources,
             output: writer,
@@ -113,7 +113,7 @@ pub fn run_read<W: Stamped, D: Disk, S: Sources>(
 pub fn run<R: Read, W: Stamped, D: Disk, S: Sources>(
     alloc: Global,
     reader: &mut R,
-    given: Outside<D, S, W>,
+    given: RunResources<D, S, W>,
 ) -> Ran<D, S, W>
     ensures same { SameDisk (D.view given.disk) (D.view result.outside.disk) }
     ensures ran { RanRead (running_rules (source_rules S.after S.wakes S.clock) W.held)

@@ -149,7 +149,10 @@ impl<'a> ByScript<'a> {
         if !edits.is_empty() {
             self.group = edits.len() as u64;
             self.wrong = false;
-            return Ok(Action::Edits(self.strict, edits));
+            return Ok(Action::Edits {
+                up_to: self.strict,
+                edits,
+            });
         }
         if self.number != before {
             self.wrong = false;

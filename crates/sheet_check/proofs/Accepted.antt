@@ -25,8 +25,8 @@ use Rattle.child_edge.specs.Faithful.{At, at}
 use Rattle.offline_programs.specs.declared.fault.RunFault.{RunFault}
 use Rattle.offline_programs.specs.declared.fault.RunFault.TheVariants as fault
 use Rattle.check_report.specs.declared.chosen.Chosen.{Chosen}
-use Rattle.check_report.specs.declared.report.Format.TheVariants as format
-use Rattle.check_report.specs.declared.verdict.Counts.{Counts}
+use Rattle.check_report.specs.declared.report.ReportFormat.TheVariants as format
+use Rattle.check_report.specs.declared.verdict.VerdictCounts.{VerdictCounts}
 use Rattle.check_report.specs.declared.verdict.Judgement.{Judgement}
 use Rattle.check_report.specs.declared.verdict.Verdict.{Verdict}
 use Rattle.check_report.specs.declared.verdict.Verdict.TheVariants as verdict
@@ -163,7 +163,7 @@ shown_took o chosen field s h c a b y came took t found j evaluated stands f is 
       subst (λ (x : Option Answer). Puts y (answer_ops field.id x)) f.taken put,
     )
 
-pub passed_took : {C : Type 0} (o : Way C) (chosen : Chosen) (field : Field) (w : World) (h : HostView) (c : C) (a : Option (List ℕ)) (store : StoreView) (counts : Counts)
+pub passed_took : {C : Type 0} (o : Way C) (chosen : Chosen) (field : Field) (w : World) (h : HostView) (c : C) (a : Option (List ℕ)) (store : StoreView) (counts : VerdictCounts)
     → is_chosen chosen field ≡ false → IsHost h w
     → (wrote : FieldWrote (to_accept o chosen) field (at w c h.store.disk) (records.left h c a a) counts counts)
     × Puts (putting store store) (accepted wrote.0)
@@ -171,7 +171,7 @@ passed_took o chosen field w h c a store counts none stands =
     (([], w, passed none, stands, refl, Appends-nil a), λ ops more disk stores. subst (λ (os : List Op). Stores ops os disk store) (sym (append-nil more)) stores)
 
 pub checked_took : {C : Type 0} (o : Way C) (chosen : Chosen) (field : Field) (s : At C) (h : HostView) (c : C) (a b : Option (List ℕ)) (y : Putting)
-    (counts after : Counts) (j : Judgement) → is_chosen chosen field ≡ true
+    (counts after : VerdictCounts) (j : Judgement) → is_chosen chosen field ≡ true
     → ShownTook (to_accept o chosen) (question 0 field) s (records.left h c a b) y j → after ≡ counted_on (j ∷ []) counts
     → (wrote : FieldWrote (to_accept o chosen) field s (records.left h c a b) counts after) × Puts y (accepted wrote.0)
 checked_took o chosen field s h c a b y counts after j some p is =
@@ -193,12 +193,12 @@ checked_took o chosen field s h c a b y counts after j some p is =
 
 -- some of the first fields were checked and what differs of them accepted, and these are left
 pub record TookSoFar {C : Type 0} (o : Way C) (chosen : Chosen) (all left : List Field) (s : At C) (h : HostView) (c : C) (a b : Option (List ℕ))
-    (held : Option (List ℕ) → DiskView → Type 0) (ops : List Op) (disk : DiskView) (store : StoreView) (counts : Counts) : Type 0 where
+    (held : Option (List ℕ) → DiskView → Type 0) (ops : List Op) (disk : DiskView) (store : StoreView) (counts : VerdictCounts) : Type 0 where
   pub so : FieldsSoFar (to_accept o chosen) all left s h c a b counts
   pub kept : Stores ops (accepted so.cases) disk store
   pub order : EachReported (filing held ops disk store.disk) a (accepted so.cases) [] so.cases
 
-pub none_took : {C : Type 0} (o : Way C) (chosen : Chosen) (all left : List Field) (w : World) (h : HostView) (c : C) (a : Option (List ℕ)) (held : Option (List ℕ) → DiskView → Type 0) (ops : List Op) (disk : DiskView) (store : StoreView) (counts : Counts) → left ≡ all → counts ≡ counts_of [] → IsHost h w
+pub none_took : {C : Type 0} (o : Way C) (chosen : Chosen) (all left : List Field) (w : World) (h : HostView) (c : C) (a : Option (List ℕ)) (held : Option (List ℕ) → DiskView → Type 0) (ops : List Op) (disk : DiskView) (store : StoreView) (counts : VerdictCounts) → left ≡ all → counts ≡ counts_of [] → IsHost h w
     → Stores ops [] disk store → TookSoFar o chosen all left (at w c h.store.disk) h c a a held ops disk store counts
 none_took o chosen all left w h c a held ops disk store counts e is stands stores = record {
   so = record { gone = []; cases = []; leads = w; split = sym e; ran = (refl, refl); stands = stands; counted = is; wrote = Appends-nil a };
@@ -224,7 +224,7 @@ was-chosen o chosen field s last t (checked came took verdict u some evaluated j
 
 module _ {C : Type 0} (o : Way C) (chosen : Chosen) (all left : List Field) (field : Field) (others : List Field) (s : At C) (h : HostView) (c : C)
     (a b : Option (List ℕ)) (held : Option (List ℕ) → DiskView → Type 0) (ops : List Op) (disk : DiskView) (store : StoreView)
-    (counts : Counts) (g : HostView) (d : C) (e : Option (List ℕ)) (new : StoreView) (is : left ≡ field ∷ others) (taken : TookSoFar o chosen all left s h c a b held ops disk store counts) where
+    (counts : VerdictCounts) (g : HostView) (d : C) (e : Option (List ℕ)) (new : StoreView) (is : left ≡ field ∷ others) (taken : TookSoFar o chosen all left s h c a b held ops disk store counts) where
   so : FieldsSoFar (to_accept o chosen) all left s h c a b counts
   so = taken.so
 
@@ -272,7 +272,7 @@ module _ {C : Type 0} (o : Way C) (chosen : Chosen) (all left : List Field) (fie
       let one = case field came (reason_shown_in u.world field.id) verdict (Some took) in
       (one-reported one (subst (Puts (putting store new)) (append-nil (accepted_of one)) put) (stamped some)).1
 
-  pub one_took : (after : Counts) → (wrote : FieldWrote (to_accept o chosen) field (at taken.so.leads c h.store.disk) (records.left g d b e) counts after) × Puts (putting store new) (accepted wrote.0)
+  pub one_took : (after : VerdictCounts) → (wrote : FieldWrote (to_accept o chosen) field (at taken.so.leads c h.store.disk) (records.left g d b e) counts after) × Puts (putting store new) (accepted wrote.0)
       → (is_chosen chosen field ≡ true → held b new.disk) → TookSoFar o chosen all others s g d a e held ops disk new after
   one_took after q stamped =
       let p = q.0 in
@@ -344,7 +344,7 @@ module _ {C : Type 0} (o : Way C) (chosen : Chosen) (all left : List Field) (fie
       unwritten taken.so.cases last is-output (up-to last came)
       (one-reported last put (stamped (was-chosen o chosen field (at taken.so.leads c h.store.disk) last (at came.0 d g.store.disk) came.1) is-output))
 
-pub all_took : {C : Type 0} (o : Way C) (chosen : Chosen) (all left : List Field) (s : At C) (h : HostView) (c : C) (a b : Option (List ℕ)) (held : Option (List ℕ) → DiskView → Type 0) (ops : List Op) (disk : DiskView) (store : StoreView) (counts : Counts) → left ≡ []
+pub all_took : {C : Type 0} (o : Way C) (chosen : Chosen) (all left : List Field) (s : At C) (h : HostView) (c : C) (a b : Option (List ℕ)) (held : Option (List ℕ) → DiskView → Type 0) (ops : List Op) (disk : DiskView) (store : StoreView) (counts : VerdictCounts) → left ≡ []
     → TookSoFar o chosen all left s h c a b held ops disk store counts → FieldsTook (to_accept o chosen) all s (records.left h c a b) (filing held ops disk store.disk) counts
 all_took o chosen all left s h c a b held ops disk store counts e taken =
     let same : taken.so.gone ≡ all = sym (taken.so.split ∙ ap (λ x. taken.so.gone ++ x) e ∙ append-nil taken.so.gone) in (

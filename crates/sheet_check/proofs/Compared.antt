@@ -12,8 +12,8 @@ use Rattle.offline_programs.specs.declared.fault.RunFault.{RunFault}
 use Rattle.offline_programs.specs.declared.fault.RunFault.TheVariants as fault
 use Rattle.sheet_check.proofs.Opening.{StopsIn}
 use Rattle.check_report.specs.declared.chosen.Chosen.{Chosen}
-use Rattle.check_report.specs.declared.report.Format.{Format}
-use Rattle.check_report.specs.declared.verdict.Counts.{Counts}
+use Rattle.check_report.specs.declared.report.ReportFormat.{ReportFormat}
+use Rattle.check_report.specs.declared.verdict.VerdictCounts.{VerdictCounts}
 use Rattle.check_report.specs.declared.verdict.Judgement.{Judgement}
 use Rattle.check_report.specs.Chosen.{Judged, is_chosen}
 use Rattle.check_report.specs.Errors.{brings_error}
@@ -36,10 +36,10 @@ use Rattle.sheet_check.proofs.Ends.{StopsNumbered}
 
 -- A field.
 
-pub one_passed : (m : Comparing) (field : Field) (a : Option (List ℕ)) (counts : Counts) → is_chosen m.chosen field ≡ false → FieldReported m field a a counts counts
+pub one_passed : (m : Comparing) (field : Field) (a : Option (List ℕ)) (counts : VerdictCounts) → is_chosen m.chosen field ≡ false → FieldReported m field a a counts counts
 one_passed m field a counts none = ([], together.passed none, refl, Appends-nil a)
 
-pub one_compared : (m : Comparing) (number : ℕ) (field : Field) (a b : Option (List ℕ)) (counts after : Counts) (j : Judgement) → is_chosen m.chosen field ≡ true
+pub one_compared : (m : Comparing) (number : ℕ) (field : Field) (a b : Option (List ℕ)) (counts after : VerdictCounts) (j : Judgement) → is_chosen m.chosen field ≡ true
     → Judged m.chosen field (came_by m.world m.marks field.id) j.verdict → j.error ≡ brings_error (came_by m.world m.marks field.id)
     → Appends a b (case_text m.format number (case field (came_by m.world m.marks field.id) (reason_shown_in m.world field.id) j.verdict None))
     → number ≡ total counts + 1 → after ≡ counted_on (j ∷ []) counts
@@ -58,7 +58,7 @@ compared-more chosen w marks (x ∷ xs) field cases more h p =
     (h.0, h.1 ++ more, h.2, compared-more chosen w marks xs field h.1 more h.3 p, ap (λ y. y ++ more) h.4 ∙ append_assoc h.0 h.1 more)
 
 -- The first fields were compared, and these are left.
-pub record ComparedSoFar (m : Comparing) (all left : List Field) (a b : Option (List ℕ)) (counts : Counts) : Type 0 where
+pub record ComparedSoFar (m : Comparing) (all left : List Field) (a b : Option (List ℕ)) (counts : VerdictCounts) : Type 0 where
   pub gone : List Field
   pub cases : List Case
   pub split : all ≡ gone ++ left
@@ -66,13 +66,13 @@ pub record ComparedSoFar (m : Comparing) (all left : List Field) (a b : Option (
   pub counted : counts ≡ counts_of (judgements_of cases)
   pub wrote : Appends a b (report_front m.format cases)
 
-pub none_compared : (m : Comparing) (all left : List Field) (a b : Option (List ℕ)) (counts : Counts) → left ≡ all → counts ≡ counts_of [] → Appends a b (opening_text m.format) → ComparedSoFar m all left a b counts
+pub none_compared : (m : Comparing) (all left : List Field) (a b : Option (List ℕ)) (counts : VerdictCounts) → left ≡ all → counts ≡ counts_of [] → Appends a b (opening_text m.format) → ComparedSoFar m all left a b counts
 none_compared m all left a b counts e is opened =
     record { gone = []; cases = []; split = sym e; ran = refl; counted = is; wrote = subst (Appends a b) (sym (append-nil (opening_text m.format))) opened }
 
-module _ (m : Comparing) (all left : List Field) (field : Field) (others : List Field) (a b e : Option (List ℕ)) (counts : Counts) (is : left ≡ field ∷ others)
+module _ (m : Comparing) (all left : List Field) (field : Field) (others : List Field) (a b e : Option (List ℕ)) (counts : VerdictCounts) (is : left ≡ field ∷ others)
     (so : ComparedSoFar m all left a b counts) where
-  pub more_compared : (after : Counts) → FieldReported m field b e counts after → ComparedSoFar m all others a e after
+  pub more_compared : (after : VerdictCounts) → FieldReported m field b e counts after → ComparedSoFar m all others a e after
   more_compared after p = record {
     gone = so.gone ++ field ∷ [];
     cases = so.cases ++ p.0;
@@ -90,7 +90,7 @@ module _ (m : Comparing) (all left : List Field) (field : Field) (others : List 
   pub report_broke : (why : RunFault) → Withheld b e why → ReportBroke m all a e why
   report_broke why p = record { gone = so.gone; left = left; split = so.split; cases = so.cases; compared = so.ran; wrote = leaves why p }
 
-pub all_compared : (m : Comparing) (all left : List Field) (a b : Option (List ℕ)) (counts : Counts) → left ≡ [] → ComparedSoFar m all left a b counts → FieldsReported m all a b counts
+pub all_compared : (m : Comparing) (all left : List Field) (a b : Option (List ℕ)) (counts : VerdictCounts) → left ≡ [] → ComparedSoFar m all left a b counts → FieldsReported m all a b counts
 all_compared m all left a b counts e so =
     let same : so.gone ≡ all = sym (so.split ∙ ap (λ x. so.gone ++ x) e ∙ append-nil so.gone) in
     (so.cases, subst (λ fs. FieldsCompared m.chosen m.world m.marks fs so.cases) same so.ran, so.counted, so.wrote)
@@ -124,14 +124,14 @@ module _ {C : Type 0} (o : SideBySide C) (sheet : Contents) (w : World) (h g : H
     stops = stops.0 came.0 came.2;
   }
 
-  pub together_ended : (counts : Counts) → ReportedTogether o sheet.fields (at w c h.store.disk) (records.left g m a b) counts → EndedTogether o sheet (passage c d a b) counts
+  pub together_ended : (counts : VerdictCounts) → ReportedTogether o sheet.fields (at w c h.store.disk) (records.left g m a b) counts → EndedTogether o sheet (passage c d a b) counts
   together_ended counts q = let came = q.1.0 in let reported = q.1.1 in (came.0, q.0, evaluated q.0 came, (reported.0, reported.1, reported.2, reported.3))
 
   stopped : (why : RunFault) (b : DriveBroke o.way (checking o sheet.fields) (at w c h.store.disk) g m why) → StopsAll o.way.after g (world_at_break b) m d
   stopped why (unplanned is same stands) = in_world (stops.0 w stands)
   stopped why (broke_off b) = stops_at o.way.after g b.world m d (record { working = stops.0; gone = stops.1; numbered = numbered }) b.stands
 
-  reported-broke : (marks : List Mark) (came : CameTogether o sheet.fields (at w c h.store.disk) g m marks) (why : RunFault) (F : Format) (cases : List Case) (gone left : List Field) → sheet.fields ≡ gone ++ left
+  reported-broke : (marks : List Mark) (came : CameTogether o sheet.fields (at w c h.store.disk) g m marks) (why : RunFault) (F : ReportFormat) (cases : List Case) (gone left : List Field) → sheet.fields ≡ gone ++ left
       → FieldsCompared o.chosen came.0 marks gone cases → LeavesReport o.format cases a b why → TellsTogether o sheet (passage c d a b) ⊥ why
   reported-broke marks came why F cases gone left split compared (inl p) =
       together.no_memory cases p.0 (record { leads = came.0; marks = marks; evaluated = evaluated marks came; gone = gone; left = left; split = split; compared = compared }) p.1
@@ -149,7 +149,7 @@ module _ {C : Type 0} (o : SideBySide C) (sheet : Contents) (w : World) (h g : H
 -- The whole.
 
 module _ {C : Type 0} (o : SideBySide C) (sheet : Contents) (c d : C) (a b : Option (List ℕ)) where
-  pub reported_together : (e : Option (List ℕ)) (counts : Counts) → EndedTogether o sheet (passage c d a b) counts → Appends b e (closing_text o.format counts) → TogetherChecked o sheet (passage c d a e) counts
+  pub reported_together : (e : Option (List ℕ)) (counts : VerdictCounts) → EndedTogether o sheet (passage c d a b) counts → Appends b e (closing_text o.format counts) → TogetherChecked o sheet (passage c d a e) counts
   reported_together e counts q reported = let p = q.3 in record {
     leads = q.0;
     marks = q.1;
@@ -160,7 +160,7 @@ module _ {C : Type 0} (o : SideBySide C) (sheet : Contents) (c d : C) (a b : Opt
     wrote = Appends-trans a b e (report_front o.format p.0) (closing_text o.format (counts_of (judgements_of p.0))) p.3 (subst (λ x. Appends b e (closing_text o.format x)) p.2 reported);
   }
 
-  pub counts_unwritten : (e : Option (List ℕ)) (counts : Counts) (nothing : Type 0) (why : RunFault) → EndedTogether o sheet (passage c d a b) counts → why ≡ fault.Output → TellsTogether o sheet (passage c d a e) nothing why
+  pub counts_unwritten : (e : Option (List ℕ)) (counts : VerdictCounts) (nothing : Type 0) (why : RunFault) → EndedTogether o sheet (passage c d a b) counts → why ≡ fault.Output → TellsTogether o sheet (passage c d a e) nothing why
   counts_unwritten e counts nothing why q is =
       let p = q.3 in together.unwritten p.0 is (record { leads = q.0; marks = q.1; evaluated = q.2; gone = sheet.fields; left = []; split = sym (append-nil sheet.fields); compared = p.1 })
 
@@ -171,7 +171,7 @@ tells_on o sheet q nothing why (together.no_memory cases is p wrote) = together.
 tells_on o sheet q nothing why (together.unwritten cases is p) = together.unwritten cases is p
 
 -- The counts were written, or there was no memory for the copy.
-pub together_answered : {C : Type 0} (o : SideBySide C) (sheet : Contents) (c d : C) (a b e : Option (List ℕ)) (nothing : Type 0) (answer : Option (Result Counts RunFault)) (result : Result Counts RunFault)
+pub together_answered : {C : Type 0} (o : SideBySide C) (sheet : Contents) (c d : C) (a b e : Option (List ℕ)) (nothing : Type 0) (answer : Option (Result VerdictCounts RunFault)) (result : Result VerdictCounts RunFault)
     → IfSome answer (OnCleared o sheet (passage c d a b)) → IfNone answer nothing → CountsWritten o.format b e answer result → TogetherTells o sheet (passage c d a e) nothing result
 together_answered o sheet c d a b e nothing None result some none is = subst (TogetherTells o sheet (passage c d a e) nothing) (sym is) (together.not_begun refl none)
 together_answered o sheet c d a b e nothing (Some (Ok counts)) result some none (inl (is, closing)) =

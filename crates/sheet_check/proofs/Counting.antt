@@ -1,8 +1,8 @@
 -- Counts, one after another.
 use Rattle.std.proofs.Common.{◌≡◌, ◌+◌, ℕ, suc, Bool, true, false, Option, List, [], ◌∷◌, ◌++◌, length, append_assoc, refl, ap, sym, ◌∙◌, arith}
 use Rattle.worksheet.specs.declared.field.Answer.{Answer}
-use Rattle.check_report.specs.declared.report.Format.{Format}
-use Rattle.check_report.specs.declared.verdict.Counts.{Counts}
+use Rattle.check_report.specs.declared.report.ReportFormat.{ReportFormat}
+use Rattle.check_report.specs.declared.verdict.VerdictCounts.{VerdictCounts}
 use Rattle.check_report.specs.declared.verdict.Judgement.{Judgement}
 use Rattle.check_report.specs.declared.verdict.Verdict.{Verdict}
 use Rattle.check_report.specs.declared.verdict.Verdict.TheVariants as verdict
@@ -12,7 +12,7 @@ use Rattle.check_report.specs.Errors.{brings_error}
 use Rattle.check_report.proofs.Totals.{total-of}
 use Rattle.sheet_check.specs.inside.Checking.{counted_on}
 
-verdicts-swapped : (a b : Verdict) (counts : Counts) → with_verdict a (with_verdict b counts) ≡ with_verdict b (with_verdict a counts)
+verdicts-swapped : (a b : Verdict) (counts : VerdictCounts) → with_verdict a (with_verdict b counts) ≡ with_verdict b (with_verdict a counts)
 verdicts-swapped verdict.Same verdict.Same counts = refl
 verdicts-swapped verdict.Same verdict.Differs counts = refl
 verdicts-swapped verdict.Same verdict.Unanswered counts = refl
@@ -39,12 +39,12 @@ verdicts-swapped verdict.New verdict.Unanswered counts = refl
 verdicts-swapped verdict.New verdict.LeftOut counts = refl
 verdicts-swapped verdict.New verdict.New counts = refl
 
-errors-swapped : (a b : Bool) (counts : Counts) → with_error a (with_error b counts) ≡ with_error b (with_error a counts)
+errors-swapped : (a b : Bool) (counts : VerdictCounts) → with_error a (with_error b counts) ≡ with_error b (with_error a counts)
 errors-swapped false b counts = refl
 errors-swapped true false counts = refl
 errors-swapped true true counts = refl
 
-both-swapped : (v : Verdict) (e : Bool) (counts : Counts) → with_error e (with_verdict v counts) ≡ with_verdict v (with_error e counts)
+both-swapped : (v : Verdict) (e : Bool) (counts : VerdictCounts) → with_error e (with_verdict v counts) ≡ with_verdict v (with_error e counts)
 both-swapped v false counts = refl
 both-swapped verdict.Same true counts = refl
 both-swapped verdict.Differs true counts = refl
@@ -52,7 +52,7 @@ both-swapped verdict.Unanswered true counts = refl
 both-swapped verdict.LeftOut true counts = refl
 both-swapped verdict.New true counts = refl
 
-swapped : (a b : Judgement) (counts : Counts) → counted_with a (counted_with b counts) ≡ counted_with b (counted_with a counts)
+swapped : (a b : Judgement) (counts : VerdictCounts) → counted_with a (counted_with b counts) ≡ counted_with b (counted_with a counts)
 swapped a b counts =
     ap (λ c. with_verdict a.verdict c) (both-swapped b.verdict a.error (with_error b.error counts))
     ∙ verdicts-swapped a.verdict b.verdict (with_error a.error (with_error b.error counts))
@@ -60,10 +60,10 @@ swapped a b counts =
     ∙ ap (λ c. with_verdict b.verdict c) (sym (both-swapped a.verdict b.error (with_error a.error counts)))
 
 -- what is counted as an error by the answer that came
-pub as_judged : (j : Judgement) (came : Option Answer) (counts : Counts) → j.error ≡ brings_error came → counted_on (j ∷ []) counts ≡ counted_on (judgement_of came j.verdict ∷ []) counts
+pub as_judged : (j : Judgement) (came : Option Answer) (counts : VerdictCounts) → j.error ≡ brings_error came → counted_on (j ∷ []) counts ≡ counted_on (judgement_of came j.verdict ∷ []) counts
 as_judged j came counts e = ap (λ (b : Bool). with_verdict j.verdict (with_error b counts)) e
 
-counted_on-with : (others : List Judgement) (one : Judgement) (counts : Counts) → counted_on others (counted_with one counts) ≡ counted_with one (counted_on others counts)
+counted_on-with : (others : List Judgement) (one : Judgement) (counts : VerdictCounts) → counted_on others (counted_with one counts) ≡ counted_with one (counted_on others counts)
 counted_on-with [] one counts = refl
 counted_on-with (other ∷ others) one counts = ap (λ c. counted_with other c) (counted_on-with others one counts) ∙ swapped other one (counted_on others counts)
 
@@ -84,14 +84,14 @@ cases-more cases more = ap counts_of (all cases) ∙ counts-more (judgements_of 
 
 -- The report, one case after another.
 
-texts-more : (F : Format) (number : ℕ) (cases more : List Case) → cases_text F number (cases ++ more) ≡ cases_text F number cases ++ cases_text F (number + length cases) more
+texts-more : (F : ReportFormat) (number : ℕ) (cases more : List Case) → cases_text F number (cases ++ more) ≡ cases_text F number cases ++ cases_text F (number + length cases) more
 texts-more F number [] more = ap (λ n. cases_text F n more) (omega arith)
 texts-more F number (c ∷ cases) more =
     let place : number + 1 + length cases ≡ number + suc (length cases) = omega arith in
     ap (λ t. case_text F number c ++ t) (texts-more F (number + 1) cases more ∙ ap (λ n. cases_text F (number + 1) cases ++ cases_text F n more) place)
     ∙ sym (append_assoc (case_text F number c) (cases_text F (number + 1) cases) (cases_text F (number + suc (length cases)) more))
 
-pub front-more : (F : Format) (cases more : List Case) (counts : Counts) → counts ≡ counts_of (judgements_of cases) → report_front F (cases ++ more) ≡ report_front F cases ++ cases_text F (total counts + 1) more
+pub front-more : (F : ReportFormat) (cases more : List Case) (counts : VerdictCounts) → counts ≡ counts_of (judgements_of cases) → report_front F (cases ++ more) ≡ report_front F cases ++ cases_text F (total counts + 1) more
 front-more F cases more counts is =
     let place : 1 + length cases ≡ total counts + 1 = omega (arith, ap total is, total-of cases) in
     ap (λ t. opening_text F ++ t) (texts-more F 1 cases more ∙ ap (λ n. cases_text F 1 cases ++ cases_text F n more) place)

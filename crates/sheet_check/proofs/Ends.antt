@@ -14,7 +14,7 @@ use Rattle.child_edge.specs.Stops.{Stops}
 use Rattle.offline_programs.specs.declared.fault.RunFault.{RunFault}
 use Rattle.offline_programs.specs.declared.fault.RunFault.TheVariants as fault
 use Rattle.sheet_check.proofs.Opening.{StopsIn}
-use Rattle.check_report.specs.declared.verdict.Counts.{Counts}
+use Rattle.check_report.specs.declared.verdict.VerdictCounts.{VerdictCounts}
 use Rattle.check_report.specs.Reports.{closing_text, report_front, judgements_of}
 use Rattle.check_report.specs.Verdicts.{counts_of}
 use Rattle.live.specs.Records as records
@@ -32,7 +32,7 @@ use Rattle.sheet_check.proofs.Own.{never_output}
 
 -- The stops.
 
-pub fields_ended : {C : Type 0} (o : OneByOne C) (fields : List Field) (s : At C) (h : HostView) (c d : C) (a b : Option (List ℕ)) (counts : Counts) → StopsIn o.way.after h c d → FieldsWrote o fields s (records.left h c a b) counts
+pub fields_ended : {C : Type 0} (o : OneByOne C) (fields : List Field) (s : At C) (h : HostView) (c d : C) (a b : Option (List ℕ)) (counts : VerdictCounts) → StopsIn o.way.after h c d → FieldsWrote o fields s (records.left h c a b) counts
     → FieldsEnded o fields s.world s.disk (passage s.children d a b) counts
 fields_ended o fields s h c d a b counts stops p = (p.0, at p.1 c h.store.disk, p.2, stops.0 p.1 p.3, p.4, p.5)
 
@@ -75,7 +75,7 @@ fields_stopped o fields s h c d a b why stops numbered p = record {
 -- The whole.
 
 module _ {C : Type 0} (o : OneByOne C) (sheet : Contents) (w : World) (copy : DiskView) (copied : IsCopy sheet w copy) (c d : C) (a b : Option (List ℕ)) where
-  pub sheet_checked : (e : Option (List ℕ)) (counts : Counts) → FieldsEnded o sheet.fields w copy (passage c d a b) counts → Appends b e (closing_text o.format counts)
+  pub sheet_checked : (e : Option (List ℕ)) (counts : VerdictCounts) → FieldsEnded o sheet.fields w copy (passage c d a b) counts → Appends b e (closing_text o.format counts)
       → SheetChecked o sheet (passage c d a e) counts
   sheet_checked e counts p reported = record {
     start = w;
@@ -90,7 +90,7 @@ module _ {C : Type 0} (o : OneByOne C) (sheet : Contents) (w : World) (copy : Di
   }
 
   -- the counts couldn't be reported
-  pub counts_withheld : (e : Option (List ℕ)) (counts : Counts) (none : Type 0) (why : RunFault) → FieldsEnded o sheet.fields w copy (passage c d a b) counts → why ≡ fault.Output
+  pub counts_withheld : (e : Option (List ℕ)) (counts : VerdictCounts) (none : Type 0) (why : RunFault) → FieldsEnded o sheet.fields w copy (passage c d a b) counts → why ≡ fault.Output
       → TellsCheck o sheet (passage c d a e) none why
   counts_withheld e counts none why p is = ends.unwritten p.0 is
       (record {
@@ -125,7 +125,7 @@ module _ {C : Type 0} (o : OneByOne C) (sheet : Contents) (w : World) (copy : Di
       tells (inside.unwritten t is so stops) = ends.unwritten p.cases is (led t so stops)
 
 -- The counts were written, or there was no memory for the copy.
-pub check_answered : {C : Type 0} (o : OneByOne C) (sheet : Contents) (c d : C) (a b e : Option (List ℕ)) (nothing : Type 0) (answer : Option (Result Counts RunFault)) (result : Result Counts RunFault)
+pub check_answered : {C : Type 0} (o : OneByOne C) (sheet : Contents) (c d : C) (a b e : Option (List ℕ)) (nothing : Type 0) (answer : Option (Result VerdictCounts RunFault)) (result : Result VerdictCounts RunFault)
     → IfSome answer (OnCopy o sheet (passage c d a b)) → IfNone answer nothing → CountsWritten o.format b e answer result → SheetAnswer o sheet (passage c d a e) nothing result
 check_answered o sheet c d a b e nothing None result some none is = subst (SheetAnswer o sheet (passage c d a e) nothing) (sym is) (ends.not_begun refl none)
 check_answered o sheet c d a b e nothing (Some (Ok counts)) result some none (inl (is, closing)) =

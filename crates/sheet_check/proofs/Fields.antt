@@ -9,7 +9,7 @@ use Rattle.session_engine.specs.Host.{HostView, IsHost}
 use Rattle.child_edge.specs.Faithful.{At, at}
 use Rattle.offline_programs.specs.declared.fault.RunFault.{RunFault}
 use Rattle.offline_programs.specs.declared.fault.RunFault.TheVariants as fault
-use Rattle.check_report.specs.declared.verdict.Counts.{Counts}
+use Rattle.check_report.specs.declared.verdict.VerdictCounts.{VerdictCounts}
 use Rattle.check_report.specs.declared.verdict.Judgement.{Judgement}
 use Rattle.sheet_json.specs.declared.checks.Took.{Took}
 use Rattle.check_report.specs.Chosen.{is_chosen}
@@ -29,11 +29,11 @@ use Rattle.sheet_check.proofs.Own.{of_evaluation}
 
 -- A field.
 
-pub field_passed : {C : Type 0} (o : OneByOne C) (field : Field) (w : World) (h : HostView) (c : C) (a : Option (List ℕ)) (counts : Counts) → is_chosen o.chosen field ≡ false → IsHost h w
+pub field_passed : {C : Type 0} (o : OneByOne C) (field : Field) (w : World) (h : HostView) (c : C) (a : Option (List ℕ)) (counts : VerdictCounts) → is_chosen o.chosen field ≡ false → IsHost h w
     → FieldWrote o field (at w c h.store.disk) (records.left h c a a) counts counts
 field_passed o field w h c a counts none stands = ([], w, passed none, stands, refl, Appends-nil a)
 
-pub field_checked : {C : Type 0} (o : OneByOne C) (number : ℕ) (field : Field) (s : At C) (h : HostView) (c : C) (a b : Option (List ℕ)) (counts after : Counts)
+pub field_checked : {C : Type 0} (o : OneByOne C) (number : ℕ) (field : Field) (s : At C) (h : HostView) (c : C) (a b : Option (List ℕ)) (counts after : VerdictCounts)
     (j : Judgement) → is_chosen o.chosen field ≡ true → ShownWrote o (question number field) s (records.left h c a b) j → number ≡ total counts + 1 → after ≡ counted_on (j ∷ []) counts
     → FieldWrote o field s (records.left h c a b) counts after
 field_checked o number field s h c a b counts after j some p place is =
@@ -69,7 +69,7 @@ fields-more o (x ∷ xs) field s cases mid more t h p = (
 )
 
 -- The first fields were checked, and these are left.
-pub record FieldsSoFar {C : Type 0} (o : OneByOne C) (all left : List Field) (s : At C) (h : HostView) (c : C) (a b : Option (List ℕ)) (counts : Counts) : Type 0 where
+pub record FieldsSoFar {C : Type 0} (o : OneByOne C) (all left : List Field) (s : At C) (h : HostView) (c : C) (a b : Option (List ℕ)) (counts : VerdictCounts) : Type 0 where
   pub gone : List Field
   pub cases : List Case
   pub leads : World
@@ -79,7 +79,7 @@ pub record FieldsSoFar {C : Type 0} (o : OneByOne C) (all left : List Field) (s 
   pub counted : counts ≡ counts_of (judgements_of cases)
   pub wrote : Appends a b (report_front o.format cases)
 
-pub none_checked : {C : Type 0} (o : OneByOne C) (all left : List Field) (w : World) (h : HostView) (c : C) (a b : Option (List ℕ)) (counts : Counts) → left ≡ all → counts ≡ counts_of [] → IsHost h w
+pub none_checked : {C : Type 0} (o : OneByOne C) (all left : List Field) (w : World) (h : HostView) (c : C) (a b : Option (List ℕ)) (counts : VerdictCounts) → left ≡ all → counts ≡ counts_of [] → IsHost h w
     → Appends a b (opening_text o.format) → FieldsSoFar o all left (at w c h.store.disk) h c a b counts
 none_checked o all left w h c a b counts e is stands opened = record {
   gone = [];
@@ -106,9 +106,9 @@ unopened_failed o all w h c a b why stands is = record {
   wrote = inl is;
 }
 
-module _ {C : Type 0} (o : OneByOne C) (all left : List Field) (field : Field) (others : List Field) (s : At C) (h : HostView) (c : C) (a b : Option (List ℕ)) (counts : Counts) (g : HostView) (d : C)
+module _ {C : Type 0} (o : OneByOne C) (all left : List Field) (field : Field) (others : List Field) (s : At C) (h : HostView) (c : C) (a b : Option (List ℕ)) (counts : VerdictCounts) (g : HostView) (d : C)
     (e : Option (List ℕ)) (is : left ≡ field ∷ others) (so : FieldsSoFar o all left s h c a b counts) where
-  pub one_checked : (after : Counts) → FieldWrote o field (at so.leads c h.store.disk) (records.left g d b e) counts after → FieldsSoFar o all others s g d a e after
+  pub one_checked : (after : VerdictCounts) → FieldWrote o field (at so.leads c h.store.disk) (records.left g d b e) counts after → FieldsSoFar o all others s g d a e after
   one_checked after p = record {
     gone = so.gone ++ field ∷ [];
     cases = so.cases ++ p.0;
@@ -137,7 +137,7 @@ module _ {C : Type 0} (o : OneByOne C) (all left : List Field) (field : Field) (
     wrote = leaves-on why p.1;
   }
 
-pub all_checked : {C : Type 0} (o : OneByOne C) (all left : List Field) (s : At C) (h : HostView) (c : C) (a b : Option (List ℕ)) (counts : Counts) → left ≡ []
+pub all_checked : {C : Type 0} (o : OneByOne C) (all left : List Field) (s : At C) (h : HostView) (c : C) (a b : Option (List ℕ)) (counts : VerdictCounts) → left ≡ []
     → FieldsSoFar o all left s h c a b counts → FieldsWrote o all s (records.left h c a b) counts
 all_checked o all left s h c a b counts e so =
     let same : so.gone ≡ all = sym (so.split ∙ ap (λ x. so.gone ++ x) e ∙ append-nil so.gone) in

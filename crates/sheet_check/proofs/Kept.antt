@@ -22,8 +22,8 @@ use Rattle.offline_programs.specs.declared.fault.RunFault.{RunFault}
 use Rattle.offline_programs.specs.declared.fault.RunFault.TheVariants as fault
 use Rattle.sheet_check.proofs.Opening.{StopsIn}
 use Rattle.check_report.specs.declared.chosen.Chosen.{Chosen}
-use Rattle.check_report.specs.declared.report.Format.TheVariants as format
-use Rattle.check_report.specs.declared.verdict.Counts.{Counts}
+use Rattle.check_report.specs.declared.report.ReportFormat.TheVariants as format
+use Rattle.check_report.specs.declared.verdict.VerdictCounts.{VerdictCounts}
 use Rattle.check_report.specs.Reports.{Case, closing_text, report_front, judgements_of}
 use Rattle.check_report.specs.Verdicts.{counts_of}
 use Rattle.live.specs.Records as records
@@ -40,7 +40,7 @@ use Rattle.sheet_check.proofs.Own.{never_open}
 module _ {C : Type 0} (o : Way C) (chosen : Chosen) (sheet : Contents) (w : World) (copy : DiskView) (h : HostView) (c mid d : C) (a b : Option (List ℕ))
     (x : Filing) (stops : StopsIn o.after h mid d)
     (numbered : StopsNumbered o.after h mid d) where
-  pub took_ended : (counts : Counts) → FieldsTook (to_accept o chosen) sheet.fields (at w c copy) (records.left h mid a b) x counts
+  pub took_ended : (counts : VerdictCounts) → FieldsTook (to_accept o chosen) sheet.fields (at w c copy) (records.left h mid a b) x counts
       → (ended : FieldsEnded (to_accept o chosen) sheet.fields w copy (passage c d a b) counts) × FiledAll x a ended.0
   took_ended counts p = ((p.0.0, at p.0.1 mid h.store.disk, p.0.2, stops.0 p.0.1 p.0.3, p.0.4, p.0.5), p.1)
 
@@ -83,7 +83,7 @@ module _ {C : Type 0} (o : Way C) (chosen : Chosen) (sheet : Contents) (w : Worl
 
 -- The counts are reported, or not.
 module _ {C : Type 0} (o : Way C) (chosen : Chosen) (sheet : Contents) (w : World) (copy : DiskView) (copied : IsCopy sheet w copy) (c d : C)
-    (a b e : Option (List ℕ)) (x : Filing) (nothing : Type 0) (counts : Counts)
+    (a b e : Option (List ℕ)) (x : Filing) (nothing : Type 0) (counts : VerdictCounts)
     (p : (ended : FieldsEnded (to_accept o chosen) sheet.fields w copy (passage c d a b) counts) × FiledAll x a ended.0) where
   pub counts_reported : Appends b e (closing_text format.Accepting counts) → SheetAccepts (to_accept o chosen) sheet (passage c d a e) nothing x (Ok counts)
   counts_reported reported = (
@@ -166,7 +166,7 @@ module _ {C : Type 0} (o : Way C) (chosen : Chosen) (sheet : Contents) (c d : C)
 
 -- The counts were written, or there was no memory for the copies.
 pub accept_answered : {C : Type 0} (o : Way C) (chosen : Chosen) (sheet : Contents) (c d : C) (a b e : Option (List ℕ)) (x : Filing) (nothing : Type 0)
-    (answer : Option (Result Counts RunFault)) (result : Result Counts RunFault) → IfSome answer (OnCopy (to_accept o chosen) sheet (passage c d a b) x)
+    (answer : Option (Result VerdictCounts RunFault)) (result : Result VerdictCounts RunFault) → IfSome answer (OnCopy (to_accept o chosen) sheet (passage c d a b) x)
     → IfNone answer (nothing × FiledAll x a []) → CountsWritten format.Accepting b e answer result
     → SheetAccepts (to_accept o chosen) sheet (passage c d a e) nothing x result
 accept_answered o chosen sheet c d a b e x nothing None result some none is =

@@ -8,7 +8,7 @@ use Rattle.child_edge.specs.Faithful.{at}
 use Rattle.offline_programs.specs.declared.fault.RunFault.{RunFault}
 use Rattle.offline_programs.specs.declared.fault.RunFault.TheVariants as fault
 use Rattle.check_report.specs.declared.chosen.Chosen.{Chosen}
-use Rattle.check_report.specs.declared.verdict.Counts.{Counts}
+use Rattle.check_report.specs.declared.verdict.VerdictCounts.{VerdictCounts}
 use Rattle.sheet_check.specs.Accept.{Filing, SheetAccepts, to_accept}
 use Rattle.sheet_check.specs.Check.{Passage, SheetAnswer, TellsCheck, passage}
 use Rattle.sheet_check.specs.Check as ends
@@ -23,35 +23,35 @@ use Rattle.sheet_check.proofs.Own.{never_open, of_evaluation}
 
 -- A field that isn't there is no fault of a run.
 
-abbrev is_missing_field : Result Counts CheckFault → Bool
+abbrev is_missing_field : Result VerdictCounts CheckFault → Bool
 is_missing_field (Ok counts) = false
 is_missing_field (Err (checks.NoField id)) = true
 is_missing_field (Err (checks.Run why)) = false
 
-no_run : (answer : Result Counts CheckFault) (id : ℕ) (why : RunFault) → answer ≡ Err (checks.NoField id) → answer ≡ Err (checks.Run why) → ⊥
+no_run : (answer : Result VerdictCounts CheckFault) (id : ℕ) (why : RunFault) → answer ≡ Err (checks.NoField id) → answer ≡ Err (checks.Run why) → ⊥
 no_run answer id why e f = let no : true ≡ false = sym (ap is_missing_field e) ∙ ap is_missing_field f in cc
 
-abbrev run_in : RunFault → Result Counts CheckFault → RunFault
+abbrev run_in : RunFault → Result VerdictCounts CheckFault → RunFault
 run_in other (Ok counts) = other
 run_in other (Err (checks.NoField id)) = other
 run_in other (Err (checks.Run why)) = why
 
-abbrev is_count : Result Counts CheckFault → Bool
+abbrev is_count : Result VerdictCounts CheckFault → Bool
 is_count (Ok counts) = true
 is_count (Err why) = false
 
 -- what came of a check that answers a fault of a run
-pub run_of : (counted : Result Counts RunFault) (why : RunFault) → answer_as counted ≡ Err (checks.Run why) → counted ≡ Err why
+pub run_of : (counted : Result VerdictCounts RunFault) (why : RunFault) → answer_as counted ≡ Err (checks.Run why) → counted ≡ Err why
 run_of (Ok counts) why e = absurd (let no : true ≡ false = ap is_count e in cc)
 run_of (Err x) why e = ap (λ (y : RunFault). Err y) (ap (run_in x) e)
 
-came_of : (missing : Option ℕ) (nothing : Type 0) (Came : Result Counts RunFault → Type 0) (answer : Result Counts CheckFault) (why : RunFault)
-    → ((counted : Result Counts RunFault) → counted ≡ Err why → Came counted → ⊥) → ByNames missing nothing Came answer → answer ≡ Err (checks.Run why) → ⊥
+came_of : (missing : Option ℕ) (nothing : Type 0) (Came : Result VerdictCounts RunFault → Type 0) (answer : Result VerdictCounts CheckFault) (why : RunFault)
+    → ((counted : Result VerdictCounts RunFault) → counted ≡ Err why → Came counted → ⊥) → ByNames missing nothing Came answer → answer ≡ Err (checks.Run why) → ⊥
 came_of missing nothing Came answer why never (no_field id is e done) f = no_run answer id why e f
 came_of missing nothing Came answer why never (all_named counted is e came) f = never counted (run_of counted why (sym e ∙ f)) came
 
-pub done_so : (missing : Option ℕ) (nothing done : Type 0) (Came Else : Result Counts RunFault → Type 0) (answer : Result Counts CheckFault)
-    → (nothing → done) → ((counted : Result Counts RunFault) → Came counted → Else counted) → ByNames missing nothing Came answer → ByNames missing done Else answer
+pub done_so : (missing : Option ℕ) (nothing done : Type 0) (Came Else : Result VerdictCounts RunFault → Type 0) (answer : Result VerdictCounts CheckFault)
+    → (nothing → done) → ((counted : Result VerdictCounts RunFault) → Came counted → Else counted) → ByNames missing nothing Came answer → ByNames missing done Else answer
 done_so missing nothing done Came Else answer none came (no_field id is e p) = no_field id is e (none p)
 done_so missing nothing done Came Else answer none came (all_named counted is e p) = all_named counted is e (came counted p)
 
@@ -66,7 +66,7 @@ reported_unopened o sheet q nothing x why e (ends.unwritten cases is led) = let 
 sheet_unopened : {C : Type 0} (o : OneByOne C) (sheet : Contents) (q : Passage C) (nothing : Type 0) (x : OpenCause) → SheetAnswer o sheet q nothing (Err (fault.Open x)) → ⊥
 sheet_unopened o sheet q nothing x reported = reported_unopened o sheet q nothing x (fault.Open x) refl reported
 
-pub check_unopened : {C : Type 0} (o : OneByOne C) (sheet : Contents) (q : Passage C) (missing : Option ℕ) (nothing : Type 0) (answer : Result Counts CheckFault) (x : OpenCause)
+pub check_unopened : {C : Type 0} (o : OneByOne C) (sheet : Contents) (q : Passage C) (missing : Option ℕ) (nothing : Type 0) (answer : Result VerdictCounts CheckFault) (x : OpenCause)
     → ByNames missing nothing (SheetAnswer o sheet q nothing) answer → answer ≡ Err (checks.Run (fault.Open x)) → ⊥
 check_unopened o sheet q missing nothing answer x reported e =
     came_of missing nothing (SheetAnswer o sheet q nothing) answer (fault.Open x) (λ counted is came. sheet_unopened o sheet q nothing x (subst (SheetAnswer o sheet q nothing) is came)) reported e
@@ -85,7 +85,7 @@ sessions_unopened : {C : Type 0} (o : SideBySide C) (sheet : Contents) (q : Pass
 sessions_unopened o sheet q nothing x true reported = together_unopened o sheet q nothing x (fault.Open x) refl reported
 sessions_unopened o sheet q nothing x false reported = sheet_unopened (one_by_one o.way o.chosen o.format) sheet q nothing x reported
 
-pub together_check_unopened : {C : Type 0} (o : SideBySide C) (sheet : Contents) (q : Passage C) (missing : Option ℕ) (nothing : Type 0) (answer : Result Counts CheckFault) (x : OpenCause)
+pub together_check_unopened : {C : Type 0} (o : SideBySide C) (sheet : Contents) (q : Passage C) (missing : Option ℕ) (nothing : Type 0) (answer : Result VerdictCounts CheckFault) (x : OpenCause)
     → ByNames missing nothing (TellsBySessions o sheet q nothing) answer → answer ≡ Err (checks.Run (fault.Open x)) → ⊥
 together_check_unopened o sheet q missing nothing answer x reported e =
     came_of missing nothing (TellsBySessions o sheet q nothing) answer (fault.Open x)
@@ -93,7 +93,7 @@ together_check_unopened o sheet q missing nothing answer x reported e =
 
 -- Where answers are accepted.
 
-pub accept_unopened : {C : Type 0} (o : Way C) (chosen : Chosen) (sheet : Contents) (c d : C) (a b : Option (List ℕ)) (f : Filing) (missing : Option ℕ) (nothing done : Type 0) (answer : Result Counts CheckFault) (x : OpenCause)
+pub accept_unopened : {C : Type 0} (o : Way C) (chosen : Chosen) (sheet : Contents) (c d : C) (a b : Option (List ℕ)) (f : Filing) (missing : Option ℕ) (nothing done : Type 0) (answer : Result VerdictCounts CheckFault) (x : OpenCause)
     → ByNames missing done (SheetAccepts (to_accept o chosen) sheet (passage c d a b) nothing f) answer → answer ≡ Err (checks.Run (fault.Open x)) → ⊥
 accept_unopened o chosen sheet c d a b f missing nothing done answer x reported e =
     came_of missing done (SheetAccepts (to_accept o chosen) sheet (passage c d a b) nothing f) answer (fault.Open x)

@@ -24,6 +24,7 @@ pub opened_on : (disk : DiskView) (h : HostView) (ops : List Op) → IsHost h (w
 opened_on disk h ops stands found ends looks = record {
   ops = ops;
   end = h.store.end;
+  allowed = stands.stands.allowed;
   is = refl;
   found = λ m. subst (λ s. IsSheetImage s (bytes_on disk)) stands.stands.contents (found m);
   ends = ends;

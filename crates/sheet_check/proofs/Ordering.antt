@@ -6,7 +6,7 @@ use Rattle.worksheet.specs.declared.op.Op.{Op}
 use Rattle.worksheet.specs.Ops.{sheet_of}
 use Rattle.recovery.specs.Sheets.{IsSheetImage, StoreView}
 use Rattle.std.specs.Io.KnownBytes.{Appends}
-use Rattle.check_report.specs.declared.report.Format.TheVariants as format
+use Rattle.check_report.specs.declared.report.ReportFormat.TheVariants as format
 use Rattle.check_report.specs.Reports.{Case, report_front}
 use Rattle.sheet_check.specs.Accept.{Filing, ReportedAfter, EachReported, accepted, filing}
 use Rattle.sheet_check.specs.Kept.{HoldsAll, IsAmong, Stores}

@@ -16,9 +16,9 @@ use Rattle.live.specs.Records.{Clock, Watch}
 use Rattle.offline_programs.specs.declared.fault.RunFault.{RunFault}
 use Rattle.offline_programs.specs.declared.fault.RunFault.TheVariants as fault
 use Rattle.check_report.specs.declared.chosen.Chosen.{Chosen}
-use Rattle.check_report.specs.declared.report.Format.TheVariants as format
+use Rattle.check_report.specs.declared.report.ReportFormat.TheVariants as format
 use Rattle.check_report.specs.declared.request.Request.{Request}
-use Rattle.check_report.specs.declared.verdict.Counts.{Counts}
+use Rattle.check_report.specs.declared.verdict.VerdictCounts.{VerdictCounts}
 use Rattle.check_report.specs.declared.verdict.Verdict.{Verdict}
 use Rattle.check_report.specs.declared.verdict.Verdict.TheVariants as verdict
 use Rattle.check_report.specs.Reports.{Case, report_front}
@@ -123,7 +123,7 @@ pub data AcceptLeft {C : Type 0} (o : OneByOne C) (sheet : Contents) (q : Passag
 
 -- What becomes of the check of a worksheet whose answers that differ or are new are accepted: the report of them is written, and exactly those
 -- answers are put after its ops. A lack of memory may be reported before the copy is there.
-abbrev pub SheetAccepts : {C : Type 0} → OneByOne C → Contents → Passage C → Type 0 → Filing → Result Counts RunFault → Type 0
+abbrev pub SheetAccepts : {C : Type 0} → OneByOne C → Contents → Passage C → Type 0 → Filing → Result VerdictCounts RunFault → Type 0
 SheetAccepts o sheet q nothing x (Ok counts) = (checked : SheetChecked o sheet q counts) × FiledAll x q.text checked.cases
 SheetAccepts o sheet q nothing x (Err why) = ((why ≡ fault.OutOfMemory) × nothing × FiledAll x q.text []) ⊎ AcceptLeft o sheet q x why
 
@@ -138,7 +138,7 @@ acceptance held disk back = record { held = held; disk = disk; back = back }
 
 -- What is answered: that the disk wasn't opened, where nothing was done and no byte of it was changed; that the worksheet on it lacks a field that
 -- is named, where nothing was done and the disk is as it was found; or what becomes of that worksheet.
-pub data AcceptAnswer {C : Type 0} (o : OneByOne C) (x : Acceptance) (q : Passage C) (nothing : Type 0) (answer : Result Counts CheckFault) : Type 0 where
+pub data AcceptAnswer {C : Type 0} (o : OneByOne C) (x : Acceptance) (q : Passage C) (nothing : Type 0) (answer : Result VerdictCounts CheckFault) : Type 0 where
   unopened : (why : OpenCause) → answer ≡ Err (checks.Run (fault.Open why)) → nothing → InModel x.disk (TellsOfSheet (bytes_on x.disk) why) → OnlyRead x.disk x.back
       → AcceptAnswer o x q nothing answer
   opened : (sheet : Contents) (ops : List Op) (now : DiskView) → FoundOn x.disk sheet ops now

@@ -7,7 +7,7 @@ use Rattle.worksheet.specs.Contents.{Contents}
 use Rattle.journal.specs.declared.opening.OpenCause.{OpenCause}
 use Rattle.recovery.specs.Sheets.{IsSheetImage, TellsOfSheet}
 use Rattle.session_engine.specs.Host.{HostView}
-use Rattle.session_engine.specs.World.{World}
+use Rattle.session_engine.specs.World.{World, sheet_in}
 use Rattle.child_edge.specs.Faithful.{At, at}
 use Rattle.child_edge.specs.Kept.{HoldsSheet}
 use Rattle.child_edge.specs.Seats.{running}
@@ -16,7 +16,7 @@ use Rattle.sheet_check.specs.Opened.{OpenedOn}
 use Rattle.offline_programs.specs.declared.fault.RunFault.{RunFault}
 use Rattle.offline_programs.specs.declared.fault.RunFault.TheVariants as fault
 use Rattle.check_report.specs.declared.chosen.Chosen.{Chosen}
-use Rattle.check_report.specs.declared.verdict.Counts.{Counts}
+use Rattle.check_report.specs.declared.verdict.VerdictCounts.{VerdictCounts}
 use Rattle.check_report.specs.Chosen.{is_chosen}
 use Rattle.check_report.specs.Reports.{Case, report_front, report_text, judgements_of}
 use Rattle.check_report.specs.Verdicts.{counts_of}
@@ -41,18 +41,19 @@ abbrev pub passage : {C : Type 0} → C → C → Option (List ℕ) → Option (
 passage c d a b = record { sources = c; left = d; text = a; written = b }
 
 -- A disk that keeps the model and has as much room as one may have was made an image of this worksheet, and a host was opened on it: this
--- is its world, in which no life goes on, and its disk.
+-- is its world, which has that worksheet and in which no life goes on, and its disk.
 pub record IsCopy (sheet : Contents) (w : World) (copy : DiskView) : Type 0 where
   pub made : DiskView
   pub keeps : IsTrue made.keeps_model
   pub room : made.room ≡ greatest_room
   pub is : IsSheetImage sheet (bytes_on made)
   pub opened : OpenedOn made w copy
+  pub has : sheet_in w ≡ sheet
   pub holds : HoldsSheet w copy
 
 -- All fields of the worksheet were checked on a copy of it, in their order, and then each life that goes on was stopped. Their report was
 -- written, and these are the counts.
-pub record SheetChecked {C : Type 0} (o : OneByOne C) (sheet : Contents) (q : Passage C) (counts : Counts) : Type 0 where
+pub record SheetChecked {C : Type 0} (o : OneByOne C) (sheet : Contents) (q : Passage C) (counts : VerdictCounts) : Type 0 where
   pub start : World
   pub copy : DiskView
   pub copied : IsCopy sheet start copy
@@ -129,13 +130,13 @@ pub data TellsCheck {C : Type 0} (o : OneByOne C) (sheet : Contents) (q : Passag
   unwritten : (cases : List Case) → why ≡ fault.Output → SheetLed o sheet q.sources q.left cases → TellsCheck o sheet q nothing why
 
 -- what becomes of a check of this worksheet
-abbrev pub SheetAnswer : {C : Type 0} → OneByOne C → Contents → Passage C → Type 0 → Result Counts RunFault → Type 0
+abbrev pub SheetAnswer : {C : Type 0} → OneByOne C → Contents → Passage C → Type 0 → Result VerdictCounts RunFault → Type 0
 SheetAnswer o sheet q nothing (Ok counts) = SheetChecked o sheet q counts
 SheetAnswer o sheet q nothing (Err why) = TellsCheck o sheet q nothing why
 
 -- What a check answers: that the disk wasn't opened, where nothing was done; that the worksheet on it lacks a field that is named, where nothing was
 -- done either; or what becomes of a check of that worksheet.
-pub data CheckAnswer {C : Type 0} (o : OneByOne C) (disk : DiskView) (q : Passage C) (nothing : Type 0) (answer : Result Counts CheckFault) : Type 0 where
+pub data CheckAnswer {C : Type 0} (o : OneByOne C) (disk : DiskView) (q : Passage C) (nothing : Type 0) (answer : Result VerdictCounts CheckFault) : Type 0 where
   unopened : (why : OpenCause) → answer ≡ Err (checks.Run (fault.Open why)) → nothing → InModel disk (TellsOfSheet (bytes_on disk) why) → CheckAnswer o disk q nothing answer
   opened : (sheet : Contents) → InModel disk (IsSheetImage sheet (bytes_on disk)) → ByNames (missing_named o.chosen sheet.fields) nothing (SheetAnswer o sheet q nothing) answer
       → CheckAnswer o disk q nothing answer

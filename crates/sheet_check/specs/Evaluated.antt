@@ -13,7 +13,7 @@ use Rattle.offline_programs.specs.declared.fault.RunFault.{RunFault}
 use Rattle.offline_programs.specs.declared.fault.RunFault.TheVariants as fault
 use Rattle.sheet_json.specs.declared.checks.Took.{Took}
 use Rattle.check_report.specs.declared.chosen.Chosen.{Chosen}
-use Rattle.check_report.specs.declared.report.Format.{Format}
+use Rattle.check_report.specs.declared.report.ReportFormat.{ReportFormat}
 use Rattle.check_report.specs.declared.request.Request.{Request}
 
 -- How fields are evaluated again: what may come of the calls on the children, of their clock and of a watch of them, and how many seconds
@@ -31,9 +31,9 @@ way R K W limit = record { after = R; clock = K; wakes = W; limit = limit }
 pub record OneByOne (C : Type 0) : Type 1 where
   pub way : Way C
   pub chosen : Chosen
-  pub format : Format
+  pub format : ReportFormat
 
-abbrev pub one_by_one : {C : Type 0} → Way C → Chosen → Format → OneByOne C
+abbrev pub one_by_one : {C : Type 0} → Way C → Chosen → ReportFormat → OneByOne C
 one_by_one o chosen F = record { way = o; chosen = chosen; format = F }
 
 -- as a request asks for it

@@ -6,7 +6,7 @@ use Rattle.worksheet.specs.declared.field.Field.{Field}
 use Rattle.offline_programs.specs.declared.fault.RunFault.{RunFault}
 use Rattle.check_report.specs.declared.chosen.Chosen.{Chosen}
 use Rattle.check_report.specs.declared.chosen.Ids.{Ids}
-use Rattle.check_report.specs.declared.verdict.Counts.{Counts}
+use Rattle.check_report.specs.declared.verdict.VerdictCounts.{VerdictCounts}
 use Rattle.evaluation.specs.Meant.{is_missing}
 use Rattle.sheet_check.specs.declared.named.CheckFault.{CheckFault}
 use Rattle.sheet_check.specs.declared.named.CheckFault.TheVariants as checks
@@ -36,12 +36,12 @@ abbrev pub missing_named : Chosen → List Field → Option ℕ
 missing_named chosen fields = first_of_both (missing_of fields chosen.left_out) (missing_compared fields chosen.compared)
 
 -- what a check answers by what came of it
-abbrev pub answer_as : Result Counts RunFault → Result Counts CheckFault
+abbrev pub answer_as : Result VerdictCounts RunFault → Result VerdictCounts CheckFault
 answer_as (Ok counts) = Ok counts
 answer_as (Err why) = Err (checks.Run why)
 
 -- What a check answers, by the number that is named and that no field has. Where there is one, that is the fault, and nothing was done. Else this
 -- came of it.
-pub data ByNames (missing : Option ℕ) (nothing : Type 0) (Came : Result Counts RunFault → Type 0) (answer : Result Counts CheckFault) : Type 0 where
+pub data ByNames (missing : Option ℕ) (nothing : Type 0) (Came : Result VerdictCounts RunFault → Type 0) (answer : Result VerdictCounts CheckFault) : Type 0 where
   no_field : (id : ℕ) → missing ≡ Some id → answer ≡ Err (checks.NoField id) → nothing → ByNames missing nothing Came answer
-  all_named : (counted : Result Counts RunFault) → missing ≡ None → answer ≡ answer_as counted → Came counted → ByNames missing nothing Came answer
+  all_named : (counted : Result VerdictCounts RunFault) → missing ≡ None → answer ≡ answer_as counted → Came counted → ByNames missing nothing Came answer

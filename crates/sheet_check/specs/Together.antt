@@ -24,9 +24,9 @@ use Rattle.live.specs.Records.{Clock, Watch}
 use Rattle.offline_programs.specs.declared.fault.RunFault.{RunFault}
 use Rattle.offline_programs.specs.declared.fault.RunFault.TheVariants as fault
 use Rattle.check_report.specs.declared.chosen.Chosen.{Chosen}
-use Rattle.check_report.specs.declared.report.Format.{Format}
+use Rattle.check_report.specs.declared.report.ReportFormat.{ReportFormat}
 use Rattle.check_report.specs.declared.request.Request.{Request}
-use Rattle.check_report.specs.declared.verdict.Counts.{Counts}
+use Rattle.check_report.specs.declared.verdict.VerdictCounts.{VerdictCounts}
 use Rattle.check_report.specs.declared.verdict.Verdict.{Verdict}
 use Rattle.check_report.specs.Chosen.{Judged, is_chosen}
 use Rattle.check_report.specs.Reports.{Case, case, report_front, report_text, judgements_of}
@@ -48,9 +48,9 @@ pub record SideBySide (C : Type 0) : Type 1 where
   pub way : Way C
   pub jobs : ℕ
   pub chosen : Chosen
-  pub format : Format
+  pub format : ReportFormat
 
-abbrev pub side_by_side : {C : Type 0} → Way C → ℕ → Chosen → Format → SideBySide C
+abbrev pub side_by_side : {C : Type 0} → Way C → ℕ → Chosen → ReportFormat → SideBySide C
 side_by_side o jobs chosen F = record { way = o; jobs = jobs; chosen = chosen; format = F }
 
 -- as a request asks for it, in so many sessions at a time
@@ -118,7 +118,7 @@ pub record EvaluatedTogether {C : Type 0} (o : SideBySide C) (sheet : Contents) 
   pub stops : Stops o.way.after (running leads) came.children d
 
 -- So they were evaluated, and their report was written, in the worksheet's order. These are the counts.
-pub record TogetherChecked {C : Type 0} (o : SideBySide C) (sheet : Contents) (q : Passage C) (counts : Counts) : Type 0 where
+pub record TogetherChecked {C : Type 0} (o : SideBySide C) (sheet : Contents) (q : Passage C) (counts : VerdictCounts) : Type 0 where
   pub leads : World
   pub marks : List Mark
   pub evaluated : EvaluatedTogether o sheet q.sources q.left leads marks
@@ -158,7 +158,7 @@ pub data TellsTogether {C : Type 0} (o : SideBySide C) (sheet : Contents) (q : P
   unwritten : (cases : List Case) → why ≡ fault.Output → TogetherReported o sheet q.sources q.left cases → TellsTogether o sheet q nothing why
 
 -- what becomes of a check of this worksheet side by side
-abbrev pub TogetherTells : {C : Type 0} → SideBySide C → Contents → Passage C → Type 0 → Result Counts RunFault → Type 0
+abbrev pub TogetherTells : {C : Type 0} → SideBySide C → Contents → Passage C → Type 0 → Result VerdictCounts RunFault → Type 0
 TogetherTells o sheet q nothing (Ok counts) = TogetherChecked o sheet q counts
 TogetherTells o sheet q nothing (Err why) = TellsTogether o sheet q nothing why
 
@@ -177,13 +177,13 @@ have_several chosen fields = any_beside chosen fields (find (is_chosen chosen) f
 
 -- What becomes of a check of this worksheet: they go side by side where they are of several sessions, and else one after another, each
 -- reported when it is known.
-abbrev pub TellsBySessions : {C : Type 0} → SideBySide C → Contents → Passage C → Type 0 → Result Counts RunFault → Type 0
+abbrev pub TellsBySessions : {C : Type 0} → SideBySide C → Contents → Passage C → Type 0 → Result VerdictCounts RunFault → Type 0
 TellsBySessions o sheet q nothing answer =
     MatchBool (have_several o.chosen sheet.fields) (TogetherTells o sheet q nothing answer) (SheetAnswer (one_by_one o.way o.chosen o.format) sheet q nothing answer)
 
 -- What the check answers: that the disk wasn't opened, where nothing was done; that the worksheet on it lacks a field that is named, where nothing was
 -- done either; or what becomes of a check of that worksheet.
-pub data TogetherAnswer {C : Type 0} (o : SideBySide C) (disk : DiskView) (q : Passage C) (nothing : Type 0) (answer : Result Counts CheckFault) : Type 0 where
+pub data TogetherAnswer {C : Type 0} (o : SideBySide C) (disk : DiskView) (q : Passage C) (nothing : Type 0) (answer : Result VerdictCounts CheckFault) : Type 0 where
   unopened : (why : OpenCause) → answer ≡ Err (checks.Run (fault.Open why)) → nothing → InModel disk (TellsOfSheet (bytes_on disk) why) → TogetherAnswer o disk q nothing answer
   opened : (sheet : Contents) → InModel disk (IsSheetImage sheet (bytes_on disk)) → ByNames (missing_named o.chosen sheet.fields) nothing (TellsBySessions o sheet q nothing) answer
       → TogetherAnswer o disk q nothing answer

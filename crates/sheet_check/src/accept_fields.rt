@@ -12,7 +12,7 @@ ghost use Rattle.offline_programs.specs.declared.fault.RunFault.TheVariants as r
 ghost use Rattle.journal.specs.declared.opening.OpenCause.TheVariants as opens;
 ghost use Rattle.check_report.specs.Chosen.{is_chosen};
 ghost use Rattle.check_report.specs.Verdicts.{total};
-ghost use Rattle.check_report.specs.declared.report.Format.TheVariants as formats;
+ghost use Rattle.check_report.specs.declared.report.ReportFormat.TheVariants as formats;
 ghost use Rattle.sheet_check.specs.Accept.{AcceptAnswer, AcceptLeft, FiledAll, SheetAccepts, acceptance, accepted, accepting_by, filing};
 ghost use Rattle.sheet_check.specs.Check.{IsCopy, passage};
 ghost use Rattle.sheet_check.specs.declared.named.CheckFault.TheVariants as named;
@@ -26,13 +26,13 @@ use crate::checking::Checked;
 use crate::closing::tell_counts;
 use crate::copying::open_copy;
 use crate::driving::{CopyDriver, Gave, drive_copy, into_sources};
-use crate::manner::{Manner, Suite};
+use crate::manner::{CheckManner, Suite};
 use crate::named::{CheckFault, accept_named};
 use crate::places::FieldPlace;
 use crate::progress::{Progress, Sight};
 use crate::sessions::count_checked;
 use arrivals::Sources;
-use check_report::{Counts, Format};
+use check_report::{ReportFormat, VerdictCounts};
 use child_edge::stop_all;
 use disk_model::Disk;
 use driver::Stamped;
@@ -47,7 +47,7 @@ fn accept_field<D: Disk, S: Disk, C: Sources, W: Stamped, P: Progress>(
     store: &mut Store<S>,
     progress: &mut P,
     writer: &mut W,
-) -> Result<Counts, RunFault>
+) -> Result<VerdictCounts, RunFault>
     requires few { total place.now.counts < 2 ^ 31 }
     requires errors { place.now.counts.errors ≤ total place.now.counts }
     requires stands { (w : World) × IsHost driver.old.host w }
@@ -91,7 +91,7 @@ fn accept_fields<D: Disk, S: Disk, C: Sources, W: Stamped, P: Progress>(
     store: &mut Store<S>,
     progress: &mut P,
     writer: &mut W,
-) -> Result<Counts, RunFault>
+) -> Result<VerdictCounts, RunFault>
     requires few { length suite.now.sheet.now.contents.fields < 2 ^ 31 }
     requires stands { (w : World) × IsHost driver.old.host w }
     requires goes_on { GoesOn suite.now.sheet.now.contents store.old }
@@ -119,7 +119,7 @@ fn accept_fields<D: Disk, S: Disk, C: Sources, W: Stamped, P: Progress>(
         progress.old progress.new) }
 {
     let all = count_checked(&suite.manner.request.chosen, suite.sheet);
-    let mut counts = Counts::none();
+    let mut counts = VerdictCounts::none();
     let mut fields = suite.sheet.fields();
     while let Some(field) = fields.next() {
         let place = FieldPlace {
@@ -143,7 +143,7 @@ fn accept_and_stop<D: Disk, S: Disk, C: Sources, W: Stamped, P: Progress>(
     store: &mut Store<S>,
     progress: &mut P,
     writer: &mut W,
-) -> Result<Counts, RunFault>
+) -> Result<VerdictCounts, RunFault>
     requires few { length suite.now.sheet.now.contents.fields < 2 ^ 31 }
     requires stands { (w : World) × IsHost driver.old.host w }
     requires goes_on { GoesOn suite.now.sheet.now.contents store.old }
@@ -182,7 +182,7 @@ fn accepted_on_copy<S: Disk, C: Sources, W: Stamped, P: Progress>(
     store: &mut Store<S>,
     progress: &mut P,
     writer: &mut W,
-) -> Gave<Option<Result<Counts, RunFault>>, C>
+) -> Gave<Option<Result<VerdictCounts, RunFault>>, C>
     requires made { (ops : List Op) × Makes ops suite.now.sheet.now.contents }
     requires few { length suite.now.sheet.now.contents.fields < 2 ^ 31 }
     requires goes_on { GoesOn suite.now.sheet.now.contents store.old }
@@ -217,12 +217,12 @@ fn accepted_on_copy<S: Disk, C: Sources, W: Stamped, P: Progress>(
 /// Checks the worksheet of a store on a copy of it, accepts answers in the store, and compares with a second copy, which stays as the
 /// worksheet was. None where there is no memory for the copies.
 fn accepted_on_copies<S: Disk, C: Sources, W: Stamped, P: Progress>(
-    manner: &Manner<'_>,
+    manner: &CheckManner<'_>,
     sources: C,
     store: &mut Store<S>,
     progress: &mut P,
     writer: &mut W,
-) -> Gave<Option<Result<Counts, RunFault>>, C>
+) -> Gave<Option<Result<VerdictCounts, RunFault>>, C>
     requires made { (ops : List Op) × Makes ops store.old.sheet.contents }
     requires few { length store.old.sheet.contents.fields < 2 ^ 31 }
     requires goes_on { GoesOn store.old.sheet.contents store.old }
@@ -258,12 +258,12 @@ fn accepted_on_copies<S: Disk, C: Sources, W: Stamped, P: Progress>(
 
 /// Checks the worksheet of a store, accepts the answers that differ or are new, and tells the counts.
 pub(crate) fn accept_sheet<S: Disk, C: Sources, W: Stamped, P: Progress>(
-    manner: &Manner<'_>,
+    manner: &CheckManner<'_>,
     sources: C,
     store: &mut Store<S>,
     progress: &mut P,
     writer: &mut W,
-) -> Gave<Result<Counts, RunFault>, C>
+) -> Gave<Result<VerdictCounts, RunFault>, C>
     requires made { (ops : List Op) × Makes ops store.old.sheet.contents }
     requires goes_on { GoesOn store.old.sheet.contents store.old }
     requires at_once { store.old.gathers ≡ false }
@@ -282,7 +282,7 @@ pub(crate) fn accept_sheet<S: Disk, C: Sources, W: Stamped, P: Progress>(
     worksheet::laws::ops_make_worksheets();
     let Gave { answer, sources } = accepted_on_copies(manner, sources, store, progress, writer);
     Gave {
-        answer: tell_counts(Format::Accepting, answer, progress, writer),
+        answer: tell_counts(ReportFormat::Accepting, answer, progress, writer),
         sources,
     }
 }
@@ -300,7 +300,7 @@ pub(crate) fn accept_sheet<S: Disk, C: Sources, W: Stamped, P: Progress>(
 /// part may have gone out. `OutOfMemory`, `Host` of another fault of the copy's
 /// host, and `Input` and `InputTooLong` as of `check`: what was reported is on the disk, and no more.
 pub fn check_accepting<D: Disk, C: Sources, W: Stamped, P: Progress>(
-    manner: &Manner<'_>,
+    manner: &CheckManner<'_>,
     disk: D,
     sources: C,
     progress: &mut P,

@@ -11,7 +11,7 @@ ghost use Rattle.child_edge.specs.Faithful.{at};
 ghost use Rattle.live.specs.Records.{left};
 ghost use Rattle.sheet_check.specs.Kept.{Stores};
 ghost use Rattle.check_report.specs.Chosen.{is_chosen};
-ghost use Rattle.check_report.specs.declared.report.Format.TheVariants as formats;
+ghost use Rattle.check_report.specs.declared.report.ReportFormat.TheVariants as formats;
 ghost use Rattle.sheet_check.specs.Accept.{accepted_answer, accepting_by, answer_ops};
 ghost use Rattle.sheet_check.specs.Evaluated.{came_if, reason_shown_in, shown_in};
 ghost use Rattle.sheet_check.specs.Progress.{LeavesLine, MakesRoom};
@@ -27,7 +27,7 @@ use crate::telling::make_room;
 use arrivals::Sources;
 use block_tree::{OutOfMemory, Reason};
 use check_report::{
-    Chosen, Format, Judgement, Verdict, acceptance_in_memory, brings_error, write_and_flush,
+    Chosen, Judgement, ReportFormat, Verdict, acceptance_in_memory, brings_error, write_and_flush,
 };
 use disk_model::Disk;
 use driver::Stamped;
@@ -165,7 +165,7 @@ fn tell<W: Write, P: Progress>(
     ensures err { IfErr result (λ why. why ≡ RunFault.Output) }
     ensures room { MakesRoom formats.Accepting P.shows verdict progress.old progress.new }
 {
-    make_room(Format::Accepting, verdict, progress);
+    make_room(ReportFormat::Accepting, verdict, progress);
     write_and_flush(text, writer).map_err(|_| RunFault::Output)
 }
 

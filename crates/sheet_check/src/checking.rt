@@ -23,14 +23,14 @@ use crate::closing::tell_counts;
 use crate::copying::open_copy;
 use crate::driving::{CopyDriver, Gave, drive_copy, into_sources};
 use crate::evaluating::evaluate;
-use crate::manner::Manner;
+use crate::manner::CheckManner;
 use crate::named::{CheckFault, check_named};
 use crate::places::FieldPlace;
 use crate::progress::{Progress, Sight};
 use crate::sessions::count_checked;
 use crate::telling::{Tried, tell_what_came};
 use arrivals::Sources;
-use check_report::{Counts, Format, Judgement, open_report};
+use check_report::{Judgement, ReportFormat, VerdictCounts, open_report};
 use child_edge::stop_all;
 use disk_model::Disk;
 use journal::OpenFault;
@@ -80,7 +80,7 @@ fn check_field<D: Disk, C: Sources, W: Write, P: Progress>(
     driver: &mut CopyDriver<D, C>,
     progress: &mut P,
     writer: &mut W,
-) -> Result<Counts, RunFault>
+) -> Result<VerdictCounts, RunFault>
     requires few { total place.now.counts < 2 ^ 31 }
     requires errors { place.now.counts.errors ≤ total place.now.counts }
     ensures ok { (w : World) → IsHost driver.old.host w → IfOk result (FieldWrote
@@ -109,7 +109,7 @@ fn check_field<D: Disk, C: Sources, W: Write, P: Progress>(
 }
 
 /// Writes what stands first in a report.
-pub(crate) fn tell_opening<W: Write>(format: Format, writer: &mut W) -> Result<(), RunFault>
+pub(crate) fn tell_opening<W: Write>(format: ReportFormat, writer: &mut W) -> Result<(), RunFault>
     ensures ok { OnOk result (Appends (W.contents writer.old) (W.contents writer.new)
         (opening_text format)) }
     ensures err { IfErr result (λ why. why ≡ RunFault.Output) }
@@ -119,12 +119,12 @@ pub(crate) fn tell_opening<W: Write>(format: Format, writer: &mut W) -> Result<(
 
 /// Checks the fields of a worksheet in their order, after what stands first in their report.
 fn check_fields<D: Disk, C: Sources, W: Write, P: Progress>(
-    manner: &Manner<'_>,
+    manner: &CheckManner<'_>,
     sheet: &Sheet,
     driver: &mut CopyDriver<D, C>,
     progress: &mut P,
     writer: &mut W,
-) -> Result<Counts, RunFault>
+) -> Result<VerdictCounts, RunFault>
     requires { length sheet.now.contents.fields < 2 ^ 31 }
     ensures ok { (w : World) → IsHost driver.old.host w → IfOk result (FieldsWrote
         (checking_by C.after C.clock C.wakes manner.now.request.now)
@@ -147,7 +147,7 @@ fn check_fields<D: Disk, C: Sources, W: Write, P: Progress>(
     if let Err(fault) = tell_opening(manner.request.format, writer) {
         return Err(fault);
     }
-    let mut counts = Counts::none();
+    let mut counts = VerdictCounts::none();
     let mut fields = sheet.fields();
     while let Some(field) = fields.next() {
         let place = FieldPlace {
@@ -166,12 +166,12 @@ fn check_fields<D: Disk, C: Sources, W: Write, P: Progress>(
 
 /// Checks the fields, takes the line of progress away, and stops each life that goes on.
 fn check_and_stop<D: Disk, C: Sources, W: Write, P: Progress>(
-    manner: &Manner<'_>,
+    manner: &CheckManner<'_>,
     sheet: &Sheet,
     driver: &mut CopyDriver<D, C>,
     progress: &mut P,
     writer: &mut W,
-) -> Result<Counts, RunFault>
+) -> Result<VerdictCounts, RunFault>
     requires { length sheet.now.contents.fields < 2 ^ 31 }
     ensures ok { (w : World) → IsHost driver.old.host w → IfOk result (FieldsEnded
         (checking_by C.after C.clock C.wakes manner.now.request.now)
@@ -195,12 +195,12 @@ fn check_and_stop<D: Disk, C: Sources, W: Write, P: Progress>(
 
 /// Checks a worksheet on a copy of it, whose host ends here. None where there is no memory for the copy.
 fn checked_on_copy<C: Sources, W: Write, P: Progress>(
-    manner: &Manner<'_>,
+    manner: &CheckManner<'_>,
     sheet: &Sheet,
     sources: C,
     progress: &mut P,
     writer: &mut W,
-) -> Gave<Option<Result<Counts, RunFault>>, C>
+) -> Gave<Option<Result<VerdictCounts, RunFault>>, C>
     requires made { (ops : List Op) × Makes ops sheet.now.contents }
     requires few { length sheet.now.contents.fields < 2 ^ 31 }
     ensures none { IfNone result.answer ((result.sources ≡ sources) × (writer.new ≡ writer.old)
@@ -230,12 +230,12 @@ fn checked_on_copy<C: Sources, W: Write, P: Progress>(
 
 /// Checks a worksheet on a copy of it, and tells the counts.
 pub(crate) fn check_sheet<C: Sources, W: Write, P: Progress>(
-    manner: &Manner<'_>,
+    manner: &CheckManner<'_>,
     sheet: &Sheet,
     sources: C,
     progress: &mut P,
     writer: &mut W,
-) -> Gave<Result<Counts, RunFault>, C>
+) -> Gave<Result<VerdictCounts, RunFault>, C>
     requires { (ops : List Op) × Makes ops sheet.now.contents }
     ensures checked { SheetAnswer
         (checking_by C.after C.clock C.wakes manner.now.request.now)
@@ -261,7 +261,7 @@ pub struct Checked<D: Disk, C> {
     pub disk: D,
     pub sources: C,
     /// How many evaluations came to what, or why the check ended early.
-    pub answer: Result<Counts, CheckFault>,
+    pub answer: Result<VerdictCounts, CheckFault>,
 }
 
 /// Checks the worksheet on a disk: evaluates each field that is checked, in their order, on a
@@ -286,7 +286,7 @@ pub struct Checked<D: Disk, C> {
 /// of one field: what was reported before is written. `Output` where the writer fails: a part of the text may have
 /// gone out.
 pub fn check<D: Disk, C: Sources, W: Write, P: Progress>(
-    manner: &Manner<'_>,
+    manner: &CheckManner<'_>,
     disk: D,
     sources: C,
     progress: &mut P,

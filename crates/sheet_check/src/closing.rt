@@ -6,12 +6,16 @@ ghost use Rattle.sheet_check.specs.declared.progress.Sight.TheVariants as sight;
 ghost use Rattle.sheet_check.specs.inside.Checking.{CountsWritten};
 
 use crate::progress::{Progress, Sight};
-use check_report::{Counts, Format, close_report};
+use check_report::{ReportFormat, VerdictCounts, close_report};
 use offline_programs::RunFault;
 use std::io::Write;
 
 /// Writes what stands last in a report, and flushes it.
-fn tell_closing<W: Write>(format: Format, counts: Counts, writer: &mut W) -> Result<(), RunFault>
+fn tell_closing<W: Write>(
+    format: ReportFormat,
+    counts: VerdictCounts,
+    writer: &mut W,
+) -> Result<(), RunFault>
     ensures ok { OnOk result (Appends (W.contents writer.old) (W.contents writer.new)
         (closing_text format counts)) }
     ensures err { IfErr result (λ why. why ≡ RunFault.Output) }
@@ -22,11 +26,11 @@ fn tell_closing<W: Write>(format: Format, counts: Counts, writer: &mut W) -> Res
 /// Tells the counts of a check, where it came to its end on its copy. Where there was no memory for a copy nothing was shown, and the line of
 /// progress is taken away.
 pub(crate) fn tell_counts<W: Write, P: Progress>(
-    format: Format,
-    answer: Option<Result<Counts, RunFault>>,
+    format: ReportFormat,
+    answer: Option<Result<VerdictCounts, RunFault>>,
     progress: &mut P,
     writer: &mut W,
-) -> Result<Counts, RunFault>
+) -> Result<VerdictCounts, RunFault>
     ensures counts { CountsWritten format (W.contents writer.old)
         (W.contents writer.new) answer result }
     ensures none { IfNone answer ((writer.new ≡ writer.old) × P.shows progress.old sight.Nothing

@@ -9,14 +9,14 @@ ghost use Rattle.sheet_check.specs.inside.Comparing.{FieldReported, FieldsReport
 
 use crate::checking::tell_opening;
 use crate::driving::CopyDriver;
-use crate::manner::Manner;
+use crate::manner::CheckManner;
 use crate::marked::is_in_time;
 use crate::places::FieldPlace;
 use crate::progress::Progress;
 use crate::sessions::count_checked;
 use crate::telling::{Tried, tell_what_came};
 use arrivals::Sources;
-use check_report::Counts;
+use check_report::VerdictCounts;
 use disk_model::Disk;
 use offline_programs::RunFault;
 use std::io::Write;
@@ -29,7 +29,7 @@ fn compare_field<D: Disk, C: Sources, W: Write, P: Progress>(
     driver: &CopyDriver<D, C>,
     progress: &mut P,
     writer: &mut W,
-) -> Result<Counts, RunFault>
+) -> Result<VerdictCounts, RunFault>
     requires few { total place.now.counts < 2 ^ 31 }
     requires errors { place.now.counts.errors ≤ total place.now.counts }
     ensures ok { (w : World) → IsHost driver.now.host w → IfOk result (FieldReported
@@ -61,12 +61,12 @@ fn compare_field<D: Disk, C: Sources, W: Write, P: Progress>(
 
 /// Compares the fields of a worksheet in their order, after what stands first in their report.
 pub(crate) fn compare_fields<D: Disk, C: Sources, W: Write, P: Progress>(
-    manner: &Manner<'_>,
+    manner: &CheckManner<'_>,
     sheet: &Sheet,
     driver: &CopyDriver<D, C>,
     progress: &mut P,
     writer: &mut W,
-) -> Result<Counts, RunFault>
+) -> Result<VerdictCounts, RunFault>
     requires { length sheet.now.contents.fields < 2 ^ 31 }
     ensures ok { (w : World) → IsHost driver.now.host w → IfOk result (FieldsReported
         (comparing manner.now.request.now.chosen manner.now.request.now.format w
@@ -89,7 +89,7 @@ pub(crate) fn compare_fields<D: Disk, C: Sources, W: Write, P: Progress>(
     if let Err(fault) = tell_opening(manner.request.format, writer) {
         return Err(fault);
     }
-    let mut counts = Counts::none();
+    let mut counts = VerdictCounts::none();
     let mut fields = sheet.fields();
     while let Some(field) = fields.next() {
         let place = FieldPlace {

@@ -24,7 +24,7 @@ mod together;
 
 pub use accept_fields::check_accepting;
 pub use checking::{Checked, check};
-pub use manner::{Beside, Manner};
+pub use manner::{CheckManner, CheckSetup};
 pub use named::CheckFault;
 pub use progress::{Progress, ProgressLine, Sight};
 pub use together::check_together;

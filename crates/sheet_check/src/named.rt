@@ -3,7 +3,7 @@ ghost use Rattle.std.specs.Prelude.{◌≡◌, [], List, false, find};
 ghost use Rattle.disk_model.specs.Disk.{DiskView};
 ghost use Rattle.worksheet.specs.declared.op.Op.{Op};
 ghost use Rattle.recovery.specs.Sheets.{Makes};
-ghost use Rattle.check_report.specs.declared.report.Format.TheVariants as formats;
+ghost use Rattle.check_report.specs.declared.report.ReportFormat.TheVariants as formats;
 ghost use Rattle.evaluation.specs.Meant as meant;
 ghost use Rattle.sheet_check.specs.Accept.{SheetAccepts, accepting_by, filing};
 ghost use Rattle.sheet_check.specs.Check.{SheetAnswer, passage};
@@ -18,11 +18,11 @@ ghost use Rattle.sheet_check.specs.Evaluated.{checking_by};
 use crate::accept_fields::accept_sheet;
 use crate::checking::check_sheet;
 use crate::driving::Gave;
-use crate::manner::{Beside, Manner};
+use crate::manner::{CheckManner, CheckSetup};
 use crate::progress::Progress;
 use crate::together::check_by_sessions;
 use arrivals::Sources;
-use check_report::{Chosen, Counts, Ids};
+use check_report::{Chosen, Ids, VerdictCounts};
 use disk_model::Disk;
 use driver::Stamped;
 use offline_programs::RunFault;
@@ -41,7 +41,7 @@ pub enum CheckFault {
 }
 
 /// What a check answers by what came of it.
-fn answer_as(counted: Result<Counts, RunFault>) -> Result<Counts, CheckFault>
+fn answer_as(counted: Result<VerdictCounts, RunFault>) -> Result<VerdictCounts, CheckFault>
     ensures { result ≡ named.answer_as counted }
 {
     match counted {
@@ -114,12 +114,12 @@ fn missing_named(chosen: &Chosen, sheet: &Sheet) -> Option<u32>
 
 /// Checks a worksheet, where it has the fields that are named.
 pub(crate) fn check_named<C: Sources, W: Write, P: Progress>(
-    manner: &Manner<'_>,
+    manner: &CheckManner<'_>,
     sheet: &Sheet,
     sources: C,
     progress: &mut P,
     writer: &mut W,
-) -> Gave<Result<Counts, CheckFault>, C>
+) -> Gave<Result<VerdictCounts, CheckFault>, C>
     requires { (ops : List Op) × Makes ops sheet.now.contents }
     ensures checked { ByNames (missing_named manner.now.request.now.chosen
         sheet.now.contents.fields)
@@ -152,12 +152,12 @@ pub(crate) fn check_named<C: Sources, W: Write, P: Progress>(
 
 /// Checks a worksheet, where it has the fields that are named: side by side where the fields that are checked are of several sessions.
 pub(crate) fn check_named_together<C: Sources, W: Write, P: Progress>(
-    beside: &Beside<'_>,
+    beside: &CheckSetup<'_>,
     sheet: &Sheet,
     sources: C,
     progress: &mut P,
     writer: &mut W,
-) -> Gave<Result<Counts, CheckFault>, C>
+) -> Gave<Result<VerdictCounts, CheckFault>, C>
     requires { (ops : List Op) × Makes ops sheet.now.contents }
     ensures checked { ByNames (missing_named beside.now.manner.request.now.chosen
         sheet.now.contents.fields)
@@ -193,12 +193,12 @@ pub(crate) fn check_named_together<C: Sources, W: Write, P: Progress>(
 
 /// Checks the worksheet of a store, where it has the fields that are named, and accepts the answers that differ or are new.
 pub(crate) fn accept_named<S: Disk, C: Sources, W: Stamped, P: Progress>(
-    manner: &Manner<'_>,
+    manner: &CheckManner<'_>,
     sources: C,
     store: &mut Store<S>,
     progress: &mut P,
     writer: &mut W,
-) -> Gave<Result<Counts, CheckFault>, C>
+) -> Gave<Result<VerdictCounts, CheckFault>, C>
     requires made { (ops : List Op) × Makes ops store.old.sheet.contents }
     requires goes_on { GoesOn store.old.sheet.contents store.old }
     requires at_once { store.old.gathers ≡ false }

@@ -3,18 +3,18 @@ ghost use Rattle.std.specs.Prelude.{◌≡◌, ◌+◌, ◌≤◌, ◌<◌, ◌^
 ghost use Rattle.check_report.specs.Verdicts.{counted_with, total};
 ghost use Rattle.sheet_check.specs.declared.progress.Sight.TheVariants as sight;
 
-use crate::manner::Manner;
+use crate::manner::CheckManner;
 use crate::progress::{Progress, Sight};
-use check_report::{Counts, Judgement};
+use check_report::{Judgement, VerdictCounts};
 use worksheet::Field;
 
 /// The place of a field in a check.
 #[derive(Clone, Copy)]
 pub(crate) struct FieldPlace<'a> {
-    pub(crate) manner: Manner<'a>,
+    pub(crate) manner: CheckManner<'a>,
     pub(crate) field: &'a Field,
     /// What those before it came to.
-    pub(crate) counts: Counts,
+    pub(crate) counts: VerdictCounts,
     /// How many fields are checked in all.
     pub(crate) all: u32,
 }
@@ -29,7 +29,11 @@ impl FieldPlace<'_> {
     }
 
     /// The counts with what the field came to, which are shown.
-    pub(crate) fn counted<P: Progress>(&self, judgement: Judgement, progress: &mut P) -> Counts
+    pub(crate) fn counted<P: Progress>(
+        &self,
+        judgement: Judgement,
+        progress: &mut P,
+    ) -> VerdictCounts
         requires few { total self.now.counts < 2 ^ 31 }
         requires errors { self.now.counts.errors ≤ total self.now.counts }
         ensures counted { result ≡ counted_with judgement self.now.counts }

@@ -4,7 +4,7 @@ ghost use Rattle.std.specs.Io.KnownBytes.{Appends};
 ghost use Rattle.sheet_check.specs.Screen as screen;
 ghost use Rattle.sheet_check.specs.declared.progress.Sight.TheVariants as sight;
 
-use check_report::Counts;
+use check_report::VerdictCounts;
 use offline_programs::{Message, Says};
 use sheet_text::WriteFault;
 use std::io;
@@ -16,7 +16,7 @@ pub enum Sight {
     /// What the fields came to that were checked so far, and how many are to be checked in all.
     Line {
         /// What came of those so far.
-        counts: Counts,
+        counts: VerdictCounts,
         /// How many fields are checked.
         all: u32,
     },
@@ -77,7 +77,7 @@ fn write_unanswered<W: Write>(unanswered: u32, out: &mut W) -> io::Result<()>
 }
 
 /// Writes a line with how far the check is, in the place of what the terminal's line shows.
-fn write_line<W: Write>(counts: Counts, all: u32, out: &mut W) -> io::Result<()>
+fn write_line<W: Write>(counts: VerdictCounts, all: u32, out: &mut W) -> io::Result<()>
     ensures { OnOk result (Appends (W.contents out.old) (W.contents out.new)
         (screen.sight_text (sight.Line counts all))) }
 {

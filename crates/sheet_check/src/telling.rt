@@ -10,11 +10,11 @@ ghost use Rattle.sheet_check.specs.Evaluated.{came_if, reason_shown_in, shown_in
 ghost use Rattle.sheet_check.specs.Progress.{LeavesLine, MakesRoom};
 ghost use Rattle.sheet_check.specs.inside.Checking.{Withheld};
 
-use crate::manner::Manner;
+use crate::manner::CheckManner;
 use crate::progress::{Progress, Sight};
 use block_tree::Reason;
 use check_report::{
-    Case, Format, Judgement, ReportFault, Verdict, brings_error, is_written, report_case,
+    Case, Judgement, ReportFault, ReportFormat, Verdict, brings_error, is_written, report_case,
 };
 use disk_model::Disk;
 use offline_programs::RunFault;
@@ -38,13 +38,13 @@ pub(crate) struct Tried<'a> {
 
 /// The answer that came to a field, where one did, and the reason that it shows for none.
 #[derive(Clone, Copy)]
-struct Answered<'a> {
+struct FieldAnswer<'a> {
     came: &'a Option<Answer>,
     lost: Option<Reason>,
 }
 
 /// Takes the line of progress away, where what a field came to is written.
-pub(crate) fn make_room<P: Progress>(format: Format, verdict: Verdict, progress: &mut P)
+pub(crate) fn make_room<P: Progress>(format: ReportFormat, verdict: Verdict, progress: &mut P)
     ensures { MakesRoom format P.shows verdict progress.old progress.new }
 {
     if is_written(format, verdict) {
@@ -57,7 +57,7 @@ pub(crate) fn make_room<P: Progress>(format: Format, verdict: Verdict, progress:
 /// `OutOfMemory`: nothing was written. `Output`: a part may have gone out.
 fn tell_case<W: Write>(
     alloc: Global,
-    format: Format,
+    format: ReportFormat,
     case: &Case<'_>,
     writer: &mut W,
 ) -> Result<(), RunFault>
@@ -74,7 +74,7 @@ fn tell_case<W: Write>(
 
 /// Tells a case in the place of the line of progress.
 fn tell_in_its_place<W: Write, P: Progress>(
-    manner: &Manner<'_>,
+    manner: &CheckManner<'_>,
     case: &Case<'_>,
     progress: &mut P,
     writer: &mut W,
@@ -91,9 +91,9 @@ fn tell_in_its_place<W: Write, P: Progress>(
 
 /// Judges the answer that came to a field by the one that it shows, and tells what that came to.
 fn tell_verdict<W: Write, P: Progress>(
-    manner: &Manner<'_>,
+    manner: &CheckManner<'_>,
     tried: &Tried<'_>,
-    answered: &Answered<'_>,
+    answered: &FieldAnswer<'_>,
     progress: &mut P,
     writer: &mut W,
 ) -> Result<Judgement, RunFault>
@@ -129,7 +129,7 @@ fn tell_verdict<W: Write, P: Progress>(
 
 /// Tells what a field came to that shows this now on the copy.
 fn tell_shown<W: Write, P: Progress>(
-    manner: &Manner<'_>,
+    manner: &CheckManner<'_>,
     tried: &Tried<'_>,
     now: &Field,
     progress: &mut P,
@@ -150,20 +150,20 @@ fn tell_shown<W: Write, P: Progress>(
 {
     let lost = now.lost;
     if tried.is_there {
-        let answered = Answered {
+        let answered = FieldAnswer {
             came: &now.answer,
             lost,
         };
         tell_verdict(manner, tried, &answered, progress, writer)
     } else {
-        let answered = Answered { came: &None, lost };
+        let answered = FieldAnswer { came: &None, lost };
         tell_verdict(manner, tried, &answered, progress, writer)
     }
 }
 
 /// Tells what a field came to by what it shows on the copy now.
 pub(crate) fn tell_what_came<D: Disk, W: Write, P: Progress>(
-    manner: &Manner<'_>,
+    manner: &CheckManner<'_>,
     host: &Host<D>,
     tried: &Tried<'_>,
     progress: &mut P,
@@ -186,7 +186,7 @@ pub(crate) fn tell_what_came<D: Disk, W: Write, P: Progress>(
 {
     match host.sheet().field(tried.field.id) {
         None => {
-            let answered = Answered {
+            let answered = FieldAnswer {
                 came: &None,
                 lost: None,
             };

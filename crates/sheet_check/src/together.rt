@@ -21,12 +21,12 @@ use crate::closing::tell_counts;
 use crate::comparing::compare_fields;
 use crate::driving::{CopyDriver, Gave, checking_plan, drive_copy, drive_plan, into_sources};
 use crate::evaluating::copy_fault;
-use crate::manner::Beside;
+use crate::manner::CheckSetup;
 use crate::named::{CheckFault, check_named_together};
 use crate::progress::{Progress, Sight};
 use crate::sessions::has_several;
 use arrivals::Sources;
-use check_report::Counts;
+use check_report::VerdictCounts;
 use child_edge::stop_all;
 use disk_model::Disk;
 use journal::OpenFault;
@@ -38,7 +38,7 @@ use worksheet::Sheet;
 /// Evaluates the fields of a worksheet that are checked, on a copy of it. The marks of that are in the driver's
 /// sink.
 fn evaluate_checked<D: Disk, C: Sources>(
-    beside: &Beside<'_>,
+    beside: &CheckSetup<'_>,
     sheet: &Sheet,
     driver: &mut CopyDriver<D, C>,
 ) -> Result<(), RunFault>
@@ -65,12 +65,12 @@ fn evaluate_checked<D: Disk, C: Sources>(
 
 /// Evaluates the fields that are checked on a copy, compares them with the worksheet, and reports them.
 fn check_together_on<D: Disk, C: Sources, W: Write, P: Progress>(
-    beside: &Beside<'_>,
+    beside: &CheckSetup<'_>,
     sheet: &Sheet,
     driver: &mut CopyDriver<D, C>,
     progress: &mut P,
     writer: &mut W,
-) -> Result<Counts, RunFault>
+) -> Result<VerdictCounts, RunFault>
     requires few { length sheet.now.contents.fields < 2 ^ 31 }
     requires stands { (w : World) × IsHost driver.old.host w }
     ensures ok { (w : World) → IsHost driver.old.host w → IfOk result (ReportedTogether
@@ -98,12 +98,12 @@ fn check_together_on<D: Disk, C: Sources, W: Write, P: Progress>(
 
 /// Evaluates, compares and reports them, takes the line of progress away, and stops each life that goes on.
 fn check_together_and_stop<D: Disk, C: Sources, W: Write, P: Progress>(
-    beside: &Beside<'_>,
+    beside: &CheckSetup<'_>,
     sheet: &Sheet,
     driver: &mut CopyDriver<D, C>,
     progress: &mut P,
     writer: &mut W,
-) -> Result<Counts, RunFault>
+) -> Result<VerdictCounts, RunFault>
     requires few { length sheet.now.contents.fields < 2 ^ 31 }
     requires stands { (w : World) × IsHost driver.old.host w }
     ensures ok { (w : World) → IsHost driver.old.host w
@@ -132,12 +132,12 @@ fn check_together_and_stop<D: Disk, C: Sources, W: Write, P: Progress>(
 
 /// Checks a worksheet on a copy of it, whose host ends here. None where there is no memory for the copy.
 fn together_on_copy<C: Sources, W: Write, P: Progress>(
-    beside: &Beside<'_>,
+    beside: &CheckSetup<'_>,
     sheet: &Sheet,
     sources: C,
     progress: &mut P,
     writer: &mut W,
-) -> Gave<Option<Result<Counts, RunFault>>, C>
+) -> Gave<Option<Result<VerdictCounts, RunFault>>, C>
     requires made { (ops : List Op) × Makes ops sheet.now.contents }
     requires few { length sheet.now.contents.fields < 2 ^ 31 }
     ensures none { IfNone result.answer ((result.sources ≡ sources) × (writer.new ≡ writer.old)
@@ -168,12 +168,12 @@ fn together_on_copy<C: Sources, W: Write, P: Progress>(
 
 /// Checks a worksheet on a copy of it, and tells the counts.
 fn check_sheet_together<C: Sources, W: Write, P: Progress>(
-    beside: &Beside<'_>,
+    beside: &CheckSetup<'_>,
     sheet: &Sheet,
     sources: C,
     progress: &mut P,
     writer: &mut W,
-) -> Gave<Result<Counts, RunFault>, C>
+) -> Gave<Result<VerdictCounts, RunFault>, C>
     requires { (ops : List Op) × Makes ops sheet.now.contents }
     ensures checked { TogetherTells
         (together_by C.after C.clock C.wakes beside.now.jobs beside.now.manner.request.now)
@@ -195,12 +195,12 @@ fn check_sheet_together<C: Sources, W: Write, P: Progress>(
 /// Checks a worksheet on a copy of it, and tells the counts: side by side where the fields that are checked are of
 /// several sessions, and else one after another.
 pub(crate) fn check_by_sessions<C: Sources, W: Write, P: Progress>(
-    beside: &Beside<'_>,
+    beside: &CheckSetup<'_>,
     sheet: &Sheet,
     sources: C,
     progress: &mut P,
     writer: &mut W,
-) -> Gave<Result<Counts, RunFault>, C>
+) -> Gave<Result<VerdictCounts, RunFault>, C>
     requires { (ops : List Op) × Makes ops sheet.now.contents }
     ensures checked { TellsBySessions
         (together_by C.after C.clock C.wakes beside.now.jobs beside.now.manner.request.now)
@@ -237,7 +237,7 @@ pub(crate) fn check_by_sessions<C: Sources, W: Write, P: Progress>(
 /// is written. (A line that is refused for lack of memory leaves its field unanswered.) `Output` where the writer fails: a part of the text
 /// may have gone out.
 pub fn check_together<D: Disk, C: Sources, W: Write, P: Progress>(
-    beside: &Beside<'_>,
+    beside: &CheckSetup<'_>,
     disk: D,
     sources: C,
     progress: &mut P,

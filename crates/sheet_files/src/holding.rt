@@ -10,7 +10,7 @@ use std::rt::Files;
 
 /// Which standard streams are closed.
 #[derive(Clone, Copy, Debug, PartialEq, Eq)]
-pub struct Closed {
+pub struct ClosedStreams {
     pub input: bool,
     pub output: bool,
     pub errors: bool,
@@ -29,10 +29,10 @@ fn is_closed<S: AsFd>(stream: &S) -> bool {
     stream.as_fd().try_clone_to_owned().is_err()
 }
 
-impl Closed {
+impl ClosedStreams {
     /// Looks at the standard streams.
-    pub fn find<I: AsFd, O: AsFd, E: AsFd>(input: &I, output: &O, errors: &E) -> Closed {
-        Closed {
+    pub fn find<I: AsFd, O: AsFd, E: AsFd>(input: &I, output: &O, errors: &E) -> ClosedStreams {
+        ClosedStreams {
             input: is_closed(input),
             output: is_closed(output),
             errors: is_closed(errors),
@@ -69,7 +69,7 @@ fn open_unwritable<R: Files>(rt: &R) -> io::Result<R::File> {
 ///
 /// `Input` where nothing can be put in the place of the input, else `Output` where nothing can be
 /// put in the place of the output or of the errors. An open stream is never a fault.
-pub fn hold_closed<R: Files>(rt: &R, closed: Closed) -> Result<Held<R::File>, HoldFault> {
+pub fn hold_closed<R: Files>(rt: &R, closed: ClosedStreams) -> Result<Held<R::File>, HoldFault> {
     let mut held = Held {
         _input: None,
         _output: None,

@@ -22,7 +22,7 @@ pub use closing::Close;
 pub use disk_file::{DiskFile, OpenedFile};
 pub use file_disk::FileDisk;
 pub use files_fault::{FilesFault, HoldFault, MakeFault};
-pub use holding::{Closed, Held, hold_closed};
+pub use holding::{ClosedStreams, Held, hold_closed};
 pub use memory_file::MemoryFile;
 pub use names::Names;
 pub use openings::{Openings, Pair};

@@ -3,7 +3,7 @@ ghost use Rattle.std.specs.Prelude.{◌≡◌, IfOk, string_bytes};
 ghost use Rattle.sheet_files.specs.Names.{Brings, LocksBy, OpenedFor, second_name, tells_no_locks};
 ghost use Rattle.sheet_files.specs.declared.sheet_file.Lock.TheVariants.{Exclusive};
 
-use crate::holding::{Closed, Held, hold_closed};
+use crate::holding::{ClosedStreams, Held, hold_closed};
 use crate::outputs::is_output;
 use crate::programs::is_there_to_start;
 use crate::{HoldFault, Identity, Lock, Names, OpenedFile, SheetFile};
@@ -159,13 +159,13 @@ fn bring_folder<F: SheetFile + Drop, R: Files<File = F>>(rt: &R, path: &str) -> 
 #[derive(Drop)]
 pub struct FileNames<R: Files + Drop> {
     rt: R,
-    closed: Closed,
+    closed: ClosedStreams,
     held: Option<Held<R::File>>,
 }
 
 impl<R: Files + Drop> FileNames<R> {
     /// No place of a stream is held as yet.
-    pub fn new(rt: R, closed: Closed) -> FileNames<R> {
+    pub fn new(rt: R, closed: ClosedStreams) -> FileNames<R> {
         FileNames {
             rt,
             closed,

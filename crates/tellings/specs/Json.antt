@@ -25,14 +25,14 @@ use Rattle.sheet_export.specs.Formats.{format_name, has_text, text_in}
 use Rattle.sheet_export.specs.declared.formats.Format.{Format}
 use Rattle.tellings.specs.Voice.{Voice, page_title}
 use Rattle.tellings.specs.Faults.{fault_name, fault_number, fault_offset}
-use Rattle.tellings.specs.declared.note.Frame.{Frame}
-use Rattle.tellings.specs.declared.note.Frame.TheVariants as frame
+use Rattle.tellings.specs.declared.note.Boundary.{Boundary}
+use Rattle.tellings.specs.declared.note.Boundary.TheVariants as frame
 use Rattle.tellings.specs.declared.note.Note.{Note}
 use Rattle.tellings.specs.declared.note.Counts.{Counts}
 use Rattle.tellings.specs.declared.note.Overs.{Overs}
 use Rattle.tellings.specs.declared.note.Note.TheVariants as note
 
-abbrev pub frame_json : Frame → List ℕ
+abbrev pub frame_json : Boundary → List ℕ
 frame_json frame.Hello = telling_line reported.hello
 frame_json frame.End = telling_line reported.end
 frame_json (frame.NoField id) = telling_line (reported.no_field id)

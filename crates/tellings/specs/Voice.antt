@@ -9,13 +9,13 @@ use Rattle.session_engine.specs.World.{World}
 use Rattle.offline_programs.specs.declared.fault.RunFault.{RunFault}
 use Rattle.offline_programs.specs.declared.fault.RunFault.TheVariants as fault
 use Rattle.sheet_export.specs.declared.formats.Format.{Format}
-use Rattle.tellings.specs.declared.note.Frame.{Frame}
+use Rattle.tellings.specs.declared.note.Boundary.{Boundary}
 use Rattle.tellings.specs.declared.note.Note.{Note}
 
 -- The texts of a voice. In what is printed of a line, the number of the line comes first.
 pub record Voice : Type 0 where
   -- what stands first and last
-  pub frame : Frame → List ℕ
+  pub frame : Boundary → List ℕ
   -- what is printed of a line, or of a wait that it began, apart from replies
   pub note : Note → List ℕ
   -- the reply to a line, where this is the worksheet after it

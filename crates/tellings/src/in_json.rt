@@ -12,7 +12,7 @@ use crate::exports::write_exported;
 use crate::notes_json::write_note;
 use crate::sheets_json::{write_field, write_sheet};
 use crate::writing::{write_if, write_made};
-use crate::{Frame, Note, Tells, faults};
+use crate::{Boundary, Note, Tells, faults};
 use disk_model::Disk;
 use host_events::{ChildReply, Outcome, Reply};
 use offline_programs::RunFault;
@@ -235,17 +235,17 @@ fn write_outcomes<W: Write>(
 }
 
 /// What stands first or last.
-fn write_frame<W: Write>(alloc: Global, frame: Frame, writer: &mut W) -> Result<(), RunFault>
+fn write_frame<W: Write>(alloc: Global, frame: Boundary, writer: &mut W) -> Result<(), RunFault>
     ensures ok { OnOk result (Appends (W.contents writer.old) (W.contents writer.new)
         (texts.frame_json frame)) }
     ensures err { IfErr result (IsWithheld texts.in_json) }
     ensures unwritten { IfErr result (Unwritten writer.old writer.new) }
 {
     match frame {
-        Frame::Hello => write_made(alloc, hello_value(alloc), writer),
-        Frame::End => write_made(alloc, end_value(alloc), writer),
-        Frame::NoField(id) => write_made(alloc, no_field_value(alloc, id), writer),
-        Frame::NoProgram(name) => write_made(
+        Boundary::Hello => write_made(alloc, hello_value(alloc), writer),
+        Boundary::End => write_made(alloc, end_value(alloc), writer),
+        Boundary::NoField(id) => write_made(alloc, no_field_value(alloc, id), writer),
+        Boundary::NoProgram(name) => write_made(
             alloc,
             no_program_value(alloc, name.as_slice()),
             writer,
@@ -270,7 +270,7 @@ impl Tells for InJson {
 
     ghost to_lines = { json_in_lines };
 
-    fn frame<W: Write>(&self, frame: Frame, writer: &mut W) -> Result<(), RunFault> {
+    fn frame<W: Write>(&self, frame: Boundary, writer: &mut W) -> Result<(), RunFault> {
         write_frame(self.alloc, frame, writer)?;
         writer.flush().map_err(|_| RunFault::Output)?;
         Ok(())

@@ -10,7 +10,7 @@ ghost use Rattle.tellings.specs.Words.{answers_text, errors_text, evaluation_tex
 ghost use Rattle.worksheet.specs.Contents.{Contents};
 
 use crate::exports::tell_words;
-use crate::{Counts, Frame, Note, Overs, Tells};
+use crate::{Boundary, Counts, Note, Overs, Tells};
 use child_edge::Interrupted;
 use disk_model::Disk;
 use host_events::{Outcome, Reply};
@@ -228,7 +228,7 @@ impl Tells for InWords {
 
     ghost to_lines = { words_in_no_lines };
 
-    fn frame<W: Write>(&self, _frame: Frame, _writer: &mut W) -> Result<(), RunFault> {
+    fn frame<W: Write>(&self, _frame: Boundary, _writer: &mut W) -> Result<(), RunFault> {
         Ok(())
     }
 

@@ -13,5 +13,5 @@ mod writing;
 
 pub use in_json::InJson;
 pub use in_words::{InWords, write_named};
-pub use note::{Counts, Frame, Note, Overs};
+pub use note::{Boundary, Counts, Note, Overs};
 pub use tells::Tells;

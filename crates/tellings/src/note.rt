@@ -5,7 +5,7 @@ use worksheet::Name;
 
 /// What stands first and last.
 #[derive(Clone, Copy, Debug, PartialEq, Eq)]
-pub enum Frame {
+pub enum Boundary {
     /// The worksheet's files are open.
     Hello,
     /// The input came to its end, and all is done.

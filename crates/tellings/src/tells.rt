@@ -1,5 +1,5 @@
 //! The formats of what is printed.
-use crate::{Frame, Note};
+use crate::{Boundary, Note};
 use disk_model::Disk;
 use host_events::{Outcome, Reply};
 use offline_programs::RunFault;
@@ -26,7 +26,7 @@ pub trait Tells {
     ghost to_lines: { KeepsToLines voice };
 
     /// Tells what stands first or last. Only a voice that takes memory can fail there.
-    fn frame<W: Write>(&self, frame: Frame, writer: &mut W) -> Result<(), RunFault>
+    fn frame<W: Write>(&self, frame: Boundary, writer: &mut W) -> Result<(), RunFault>
         ensures ok { OnOk result (Appends (W.contents writer.old) (W.contents writer.new)
             (voice.frame frame)) }
         ensures still { voice.takes_memory ≡ false → writer.new ≡ writer.old }

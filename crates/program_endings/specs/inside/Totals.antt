@@ -1,11 +1,11 @@
 -- A total with one worksheet more.
 use Rattle.std.specs.Prelude.{◌+◌, ◌==◌, ◌&&◌}
-use Rattle.check_report.specs.declared.verdict.Counts.{Counts}
+use Rattle.check_report.specs.declared.verdict.VerdictCounts.{VerdictCounts}
 use Rattle.program_endings.specs.declared.ending.Ending.{Ending}
 use Rattle.program_endings.specs.declared.several_program.Total.{Total}
 
 -- of which these are the counts
-abbrev pub with_counts : Counts → Ending → Total → Total
+abbrev pub with_counts : VerdictCounts → Ending → Total → Total
 with_counts counts ending total = record {
   worksheets = total.worksheets + 1;
   same = total.same + counts.same;

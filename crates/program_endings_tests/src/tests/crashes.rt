@@ -5,7 +5,7 @@ use super::opened;
 use arrivals::ScriptedSources;
 use child_calls::Scripted;
 use disk_model::{Choice, Fill};
-use program_endings::{Given, read_rescued, run_create, run_rescue, run_script, run_show};
+use program_endings::{Resources, read_rescued, run_create, run_rescue, run_script, run_show};
 use std::alloc::Global;
 
 /// What a crash leaves of the ranges that were being written.
@@ -40,7 +40,7 @@ fn runs(alloc: Global, folder: &Folder, script: &[u8], reported: &[u8]) -> bool 
     let sources = ScriptedSources::new(children, Vec::new(alloc));
     let mut input = script;
     let mut errors: Vec<u8> = Vec::new(alloc);
-    let given = Given {
+    let given = Resources {
         files: opened::open(&Machine { folder }, alloc, "sheet"),
         sources,
         output: Vec::new(alloc),

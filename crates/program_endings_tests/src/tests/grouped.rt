@@ -4,7 +4,7 @@ use child_calls::Scripted;
 use disk_model::{Area, Choice, Disk, Fill, FuseDisk, FuseMode, MemoryDisk};
 use host_events::HostFault;
 use offline_programs::{RunFault, show};
-use script_agenda::{Outside, Ran, run};
+use script_agenda::{Ran, RunResources, run};
 use std::alloc::Global;
 
 /// How many fields the scripts make.
@@ -47,7 +47,7 @@ fn script_with_a_long_remark(alloc: Global) -> Vec<u8> {
 fn ran<D: Disk>(alloc: Global, disk: D, script: &[u8]) -> Ran<D, ScriptedSources, Vec<u8>> {
     let children = Scripted::new(alloc, Vec::new(alloc));
     let mut reader = script;
-    let given = Outside {
+    let given = RunResources {
         disk,
         sources: ScriptedSources::new(children, Vec::new(alloc)),
         output: Vec::new(alloc),

@@ -2,7 +2,7 @@
 use arrivals::ScriptedSources;
 use child_calls::Scripted;
 use offline_programs::show;
-use script_agenda::{Outside, Ran, run};
+use script_agenda::{Ran, RunResources, run};
 use sheet_files::{DiskFile, FileDisk, Lock, MemoryFile};
 use std::alloc::Global;
 
@@ -32,7 +32,7 @@ fn shown_after<K: Kind>(alloc: Global, script: &[u8]) -> Option<Vec<u8>> {
     let children = Scripted::new(alloc, Vec::new(alloc));
     let mut reader = script;
     let output: Vec<u8> = Vec::new(alloc);
-    let given = Outside {
+    let given = RunResources {
         disk,
         sources: ScriptedSources::new(children, Vec::new(alloc)),
         output,

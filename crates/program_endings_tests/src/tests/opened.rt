@@ -1,10 +1,12 @@
 //! Worksheets in the files of a runtime that has all its standard streams.
-use sheet_files::{Closed, FileDisk, FileNames, FilesFault, MakeFault, OpenedFile, SheetFile};
+use sheet_files::{
+    ClosedStreams, FileDisk, FileNames, FilesFault, MakeFault, OpenedFile, SheetFile,
+};
 use std::alloc::Global;
 use std::env::Env;
 use std::rt::Files;
 
-const OPEN: Closed = Closed {
+const OPEN: ClosedStreams = ClosedStreams {
     input: false,
     output: false,
     errors: false,

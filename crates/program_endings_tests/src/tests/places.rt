@@ -1,40 +1,45 @@
 //! The places of closed standard streams, over files that are made up.
 use super::made_up::{Calls, MadeUp};
-use sheet_files::{Closed, HoldFault, hold_closed};
+use sheet_files::{ClosedStreams, HoldFault, hold_closed};
 use std::alloc::Global;
 
-const OPEN: Closed = Closed {
+const OPEN: ClosedStreams = ClosedStreams {
     input: false,
     output: false,
     errors: false,
 };
 
-const INPUT: Closed = Closed {
+const INPUT: ClosedStreams = ClosedStreams {
     input: true,
     output: false,
     errors: false,
 };
 
-const OUTPUT: Closed = Closed {
+const OUTPUT: ClosedStreams = ClosedStreams {
     input: false,
     output: true,
     errors: false,
 };
 
-const ERRORS: Closed = Closed {
+const ERRORS: ClosedStreams = ClosedStreams {
     input: false,
     output: false,
     errors: true,
 };
 
-const ALL: Closed = Closed {
+const ALL: ClosedStreams = ClosedStreams {
     input: true,
     output: true,
     errors: true,
 };
 
 // What comes of it to hold the places of closed streams, where the first opens fail, by these calls.
-fn holds(alloc: Global, closed: Closed, shut: u32, lines: &str) -> Option<Result<(), HoldFault>> {
+fn holds(
+    alloc: Global,
+    closed: ClosedStreams,
+    shut: u32,
+    lines: &str,
+) -> Option<Result<(), HoldFault>> {
     let calls = Calls::new(alloc);
     calls.shut.set(shut);
     let runtime = MadeUp {

@@ -3,17 +3,17 @@ use arrivals::ScriptedSources;
 use child_calls::Scripted;
 use disk_model::MemoryDisk;
 use offline_programs::RunFault;
-use script_agenda::{Outside, Ran, run, run_read};
+use script_agenda::{Ran, RunResources, run, run_read};
 use std::alloc::Global;
 use std::io::{BufWriter, Write};
 use tests_desk::{Full, Parts, Unflushed};
 
 // An empty worksheet, and where the text of a run over it goes.
-fn over<W: Drop>(alloc: Global, output: W) -> Option<Outside<MemoryDisk, ScriptedSources, W>> {
+fn over<W: Drop>(alloc: Global, output: W) -> Option<RunResources<MemoryDisk, ScriptedSources, W>> {
     let disk = journal::create(MemoryDisk::new(alloc, 1_000)).ok()?;
     let children = Scripted::new(alloc, Vec::new(alloc));
     let sources = ScriptedSources::new(children, Vec::new(alloc));
-    Some(Outside {
+    Some(RunResources {
         disk,
         sources,
         output,

@@ -19,7 +19,7 @@ use Rattle.child_edge.specs.Faithful.{At, at}
 use Rattle.offline_programs.specs.declared.fault.RunFault.{RunFault}
 use Rattle.offline_programs.specs.declared.fault.RunFault.TheVariants as fault
 use Rattle.check_report.specs.declared.chosen.Chosen.{Chosen}
-use Rattle.check_report.specs.declared.verdict.Counts.{Counts}
+use Rattle.check_report.specs.declared.verdict.VerdictCounts.{VerdictCounts}
 use Rattle.check_report.specs.declared.verdict.Judgement.{Judgement}
 use Rattle.check_report.specs.Chosen.{Judged}
 use Rattle.check_report.specs.Reports.{Case, case, report_front}
@@ -113,7 +113,7 @@ abbrev pub ShownTook : {C : Type 0} → OneByOne C → Question → At C → Lef
 ShownTook o one s l y j = (wrote : ShownWrote o one s l j) × Puts y (accepted_of (case one.field wrote.0 (reason_shown_in wrote.1 one.field.id) j.verdict (Some wrote.2)))
 
 -- the same of fields, from a disk to another
-abbrev pub FieldsTook : {C : Type 0} → OneByOne C → List Field → At C → Left C → Filing → Counts → Type 0
+abbrev pub FieldsTook : {C : Type 0} → OneByOne C → List Field → At C → Left C → Filing → VerdictCounts → Type 0
 FieldsTook o fields s l x counts = (wrote : FieldsWrote o fields s l counts) × FiledAll x l.out wrote.0
 
 -- a field was checked, and this is its case
@@ -150,7 +150,7 @@ pub data FieldsBroke {C : Type 0} (o : OneByOne C) (fields : List Field) (s : At
 
 -- The fields of a worksheet were checked on a copy of it, each life that goes on was stopped, and what is accepted is put on a disk on which nothing was put
 -- before; or that ended early.
-abbrev pub OnCopy : {C : Type 0} → OneByOne C → Contents → Passage C → Filing → Result Counts RunFault → Type 0
+abbrev pub OnCopy : {C : Type 0} → OneByOne C → Contents → Passage C → Filing → Result VerdictCounts RunFault → Type 0
 OnCopy o sheet q x counted = (w : World) × (copy : DiskView) × IsCopy sheet w copy
     × IfOk counted (λ counts. (ended : FieldsEnded o sheet.fields w copy q counts) × FiledAll x q.text ended.0)
     × IfErr counted (AcceptLeft o sheet q x)

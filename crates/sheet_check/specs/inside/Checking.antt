@@ -12,8 +12,8 @@ use Rattle.child_edge.specs.Seats.{running}
 use Rattle.child_edge.specs.Stops.{Stops}
 use Rattle.offline_programs.specs.declared.fault.RunFault.{RunFault}
 use Rattle.offline_programs.specs.declared.fault.RunFault.TheVariants as fault
-use Rattle.check_report.specs.declared.report.Format.{Format}
-use Rattle.check_report.specs.declared.verdict.Counts.{Counts}
+use Rattle.check_report.specs.declared.report.ReportFormat.{ReportFormat}
+use Rattle.check_report.specs.declared.verdict.VerdictCounts.{VerdictCounts}
 use Rattle.check_report.specs.declared.verdict.Judgement.{Judgement}
 use Rattle.sheet_json.specs.declared.checks.Took.{Took}
 use Rattle.check_report.specs.Chosen.{Judged}
@@ -68,12 +68,12 @@ ShownWrote o one s l j = (came : Option Answer) × (t : World) × (took : Took) 
     × Appends l.out l.now (case_text o.format one.number (case one.field came (reason_shown_in t one.field.id) j.verdict (Some took)))
 
 -- with these more
-abbrev pub counted_on : List Judgement → Counts → Counts
+abbrev pub counted_on : List Judgement → VerdictCounts → VerdictCounts
 counted_on [] counts = counts
 counted_on (one ∷ others) counts = counted_with one (counted_on others counts)
 
 -- A field was checked after those that are counted, and what is to be reported is written.
-abbrev pub FieldWrote : {C : Type 0} → OneByOne C → Field → At C → Left C → Counts → Counts → Type 0
+abbrev pub FieldWrote : {C : Type 0} → OneByOne C → Field → At C → Left C → VerdictCounts → VerdictCounts → Type 0
 FieldWrote o field s l counts after = (cases : List Case) × (t : World) × FieldChecked o.way o.chosen field s cases (at t l.sources l.host.store.disk)
     × IsHost l.host t × (after ≡ counted_on (judgements_of cases) counts) × Appends l.out l.now (cases_text o.format (total counts + 1) cases)
 
@@ -94,7 +94,7 @@ abbrev pub FieldFailed : {C : Type 0} → OneByOne C → Field → At C → Left
 FieldFailed o field s l why = ((others : List Field) → FirstFailed o (field ∷ others) s l.host l.sources why) × LeavesText l.out l.now [] why
 
 -- These fields were checked, and what is to be reported is written.
-abbrev pub FieldsWrote : {C : Type 0} → OneByOne C → List Field → At C → Left C → Counts → Type 0
+abbrev pub FieldsWrote : {C : Type 0} → OneByOne C → List Field → At C → Left C → VerdictCounts → Type 0
 FieldsWrote o fields s l counts = (cases : List Case) × (t : World) × FieldsChecked o.way o.chosen fields s cases (at t l.sources l.host.store.disk)
     × IsHost l.host t × (counts ≡ counts_of (judgements_of cases)) × Appends l.out l.now (report_front o.format cases)
 
@@ -111,7 +111,7 @@ pub record FieldsFailed {C : Type 0} (o : OneByOne C) (fields : List Field) (s :
 
 -- From this world, on the disk of a copy, these fields were checked, what is to be reported is written, and each life that goes on was
 -- stopped.
-abbrev pub FieldsEnded : {C : Type 0} → OneByOne C → List Field → World → DiskView → Passage C → Counts → Type 0
+abbrev pub FieldsEnded : {C : Type 0} → OneByOne C → List Field → World → DiskView → Passage C → VerdictCounts → Type 0
 FieldsEnded {C = C} o fields w copy q counts = (cases : List Case) × (t : At C) × FieldsChecked o.way o.chosen fields (at w q.sources copy) cases t
     × Stops o.way.after (running t.world) t.children q.left × (counts ≡ counts_of (judgements_of cases)) × Appends q.text q.written (report_front o.format cases)
 
@@ -128,18 +128,18 @@ pub record FieldsStopped {C : Type 0} (o : OneByOne C) (fields : List Field) (w 
   pub wrote : LeavesText q.text q.written (report_front o.format cases) why
 
 -- A field was passed over, and nothing shown, or it came to a verdict, and the line stands with the counts after it.
-abbrev pub FieldShown : {P : Type 0} → Display P → ℕ → Counts → Counts → P → P → Type 0
+abbrev pub FieldShown : {P : Type 0} → Display P → ℕ → VerdictCounts → VerdictCounts → P → P → Type 0
 FieldShown {P = P} m all counts after p q = ((after ≡ counts) × (q ≡ p))
     ⊎ ((one : Judgement) × (free : P) × (after ≡ counted_with one counts) × MakesRoom m.format m.shows one.verdict p free × m.shows free (sight.Line after all) q)
 
 -- The worksheet was checked on a copy of it, and each life that goes on was stopped.
-abbrev pub OnCopy : {C : Type 0} → OneByOne C → Contents → Passage C → Result Counts RunFault → Type 0
+abbrev pub OnCopy : {C : Type 0} → OneByOne C → Contents → Passage C → Result VerdictCounts RunFault → Type 0
 OnCopy o sheet q counted = (w : World) × (copy : DiskView) × IsCopy sheet w copy
     × IfOk counted (FieldsEnded o sheet.fields w copy q) × IfErr counted (FieldsStopped o sheet.fields w copy q)
 
 -- What is written of a check that came to this on its copy, from one text to the other, and what it then answers: its counts, but where the writer fails
 -- at them; the fault that it met; and a lack of memory where there was none for a copy.
-abbrev pub CountsWritten : Format → Option (List ℕ) → Option (List ℕ) → Option (Result Counts RunFault) → Result Counts RunFault → Type 0
+abbrev pub CountsWritten : ReportFormat → Option (List ℕ) → Option (List ℕ) → Option (Result VerdictCounts RunFault) → Result VerdictCounts RunFault → Type 0
 CountsWritten F a b None result = result ≡ Err fault.OutOfMemory
 CountsWritten F a b (Some (Ok counts)) result = ((result ≡ Ok counts) × Appends a b (closing_text F counts)) ⊎ (result ≡ Err fault.Output)
 CountsWritten F a b (Some (Err why)) result = (result ≡ Err why) × (b ≡ a)

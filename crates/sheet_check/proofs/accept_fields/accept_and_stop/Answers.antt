@@ -1,5 +1,5 @@
 use Rattle.std.proofs.lemmas.Result.{IfErr-weaker, IfOk-weaker}
-use Rattle.check_report.specs.declared.report.Format.TheVariants as format
+use Rattle.check_report.specs.declared.report.ReportFormat.TheVariants as format
 use Rattle.sheet_check.specs.Accept.{filing}
 use Rattle.sheet_check.specs.Evaluated.{way}
 use Rattle.sheet_check.specs.Progress.{checked_count}

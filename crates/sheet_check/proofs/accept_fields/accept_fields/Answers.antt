@@ -1,8 +1,8 @@
 use Rattle.std.proofs.Common.{◌∙◌, ◌∷◌, ◌++◌, [], List, ap, append_assoc, length, arith, subst, sym}
 use Rattle.worksheet.specs.declared.field.Field.{Field}
 use Rattle.child_edge.specs.Faithful.{at}
-use Rattle.check_report.specs.declared.report.Format.TheVariants as format
-use Rattle.check_report.specs.declared.verdict.Counts.{Counts}
+use Rattle.check_report.specs.declared.report.ReportFormat.TheVariants as format
+use Rattle.check_report.specs.declared.verdict.VerdictCounts.{VerdictCounts}
 use Rattle.check_report.specs.Verdicts.{total}
 use Rattle.sheet_check.specs.Evaluated.{way}
 use Rattle.sheet_check.specs.Accept.{accepted}
@@ -18,7 +18,7 @@ loop-field-init g c =
     let none = ap total c.none-counts.ensures in
     record {
       few = omega (arith, all, none);
-      errors = omega (arith, none, ap (λ (n : Counts). n.errors) c.none-counts.ensures);
+      errors = omega (arith, none, ap (λ (n : VerdictCounts). n.errors) c.none-counts.ensures);
       shown = none_shown format.Accepting g.P.Progress.shows
           (checked_count c.args.suite.now.manner.request.now.chosen c.args.suite.now.sheet.now.contents.fields) c.args.progress.now c.none-counts.result c.none-counts.ensures;
       rest = ([], sym c.fields-fields.ensures);

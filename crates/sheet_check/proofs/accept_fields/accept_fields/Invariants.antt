@@ -6,7 +6,7 @@ use Rattle.session_engine.specs.World.{World}
 use Rattle.session_engine.specs.Host.{IsHost}
 use Rattle.child_edge.specs.Faithful.{at}
 use Rattle.sheet_check.specs.Kept.{Stores}
-use Rattle.check_report.specs.declared.report.Format.TheVariants as format
+use Rattle.check_report.specs.declared.report.ReportFormat.TheVariants as format
 use Rattle.check_report.specs.Verdicts.{total}
 use Rattle.sheet_check.specs.Evaluated.{way}
 use Rattle.sheet_check.specs.Progress.{FieldsShow, checked_count, display}

@@ -1,6 +1,6 @@
 use Rattle.std.proofs.Common.{◌≡◌, ◌∙◌, [], subst, sym}
 use Rattle.recovery.specs.Sheets.{StoreView}
-use Rattle.check_report.specs.declared.report.Format.TheVariants as format
+use Rattle.check_report.specs.declared.report.ReportFormat.TheVariants as format
 use Rattle.sheet_check.specs.Accept.{filing}
 use Rattle.sheet_check.specs.Evaluated.{way}
 use Rattle.sheet_check.specs.Kept.{HoldsAll}

@@ -1,7 +1,7 @@
 use Rattle.std.proofs.Common.{◌≡◌, ◌∙◌, ap, length, subst, sym, arith}
 use Rattle.std.specs.Prelude.{IfSome}
 use Rattle.worksheet.specs.Contents.{Contents, SheetView}
-use Rattle.check_report.specs.declared.report.Format.TheVariants as format
+use Rattle.check_report.specs.declared.report.ReportFormat.TheVariants as format
 use Rattle.sheet_check.specs.Evaluated.{way}
 use Rattle.sheet_check.specs.Progress.{SheetShows, checked_count, display}
 use Rattle.sheet_check.specs.inside.Accepting.{GoesOn, OnCopy}

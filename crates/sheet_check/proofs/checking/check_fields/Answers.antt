@@ -1,6 +1,6 @@
 use Rattle.std.proofs.Common.{[], ap, inl, length, arith, refl, subst}
 use Rattle.child_edge.specs.Faithful.{at}
-use Rattle.check_report.specs.declared.verdict.Counts.{Counts}
+use Rattle.check_report.specs.declared.verdict.VerdictCounts.{VerdictCounts}
 use Rattle.check_report.specs.Verdicts.{counts_of, total}
 use Rattle.sheet_check.specs.Evaluated.{one_by_one, way}
 use Rattle.sheet_check.specs.Progress.{checked_count, display, none}
@@ -15,7 +15,7 @@ loop-field-init g c =
     let none = ap total c.none-counts.ensures in
     record {
       few = omega (arith, all, none);
-      errors = omega (arith, none, ap (λ (n : Counts). n.errors) c.none-counts.ensures);
+      errors = omega (arith, none, ap (λ (n : VerdictCounts). n.errors) c.none-counts.ensures);
       shown = none_shown c.args.manner.now.request.now.format g.P.Progress.shows
           (checked_count c.args.manner.now.request.now.chosen c.args.sheet.now.contents.fields) c.args.progress.now c.none-counts.result c.none-counts.ensures;
       runs = λ w h. none_checked (one_by_one (way g.C.Children.after g.C.Sources.clock g.C.Sources.wakes c.args.manner.now.request.now.limit) c.args.manner.now.request.now.chosen c.args.manner.now.request.now.format) c.args.sheet.now.contents.fields _ w c.args.driver.now.host c.args.driver.now.sources (g.W.Write.contents c.args.writer.now) (g.W.Write.contents c.tell_opening.new.writer) c.none-counts.result c.fields-fields.ensures c.none-counts.ensures h c.in_default.ensures.ok;

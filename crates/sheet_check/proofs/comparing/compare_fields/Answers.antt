@@ -1,5 +1,5 @@
 use Rattle.std.proofs.Common.{[], ap, inl, length, arith, refl, subst}
-use Rattle.check_report.specs.declared.verdict.Counts.{Counts}
+use Rattle.check_report.specs.declared.verdict.VerdictCounts.{VerdictCounts}
 use Rattle.check_report.specs.Verdicts.{counts_of, total}
 use Rattle.sheet_check.specs.Progress.{checked_count, display, none}
 use Rattle.sheet_check.specs.inside.Checking.{FieldShown}
@@ -14,7 +14,7 @@ loop-field-init g c =
     let none = ap total c.none-counts.ensures in
     record {
       few = omega (arith, all, none);
-      errors = omega (arith, none, ap (λ (n : Counts). n.errors) c.none-counts.ensures);
+      errors = omega (arith, none, ap (λ (n : VerdictCounts). n.errors) c.none-counts.ensures);
       shown = none_shown c.args.manner.now.request.now.format g.P.Progress.shows
           (checked_count c.args.manner.now.request.now.chosen c.args.sheet.now.contents.fields) c.args.progress.now c.none-counts.result c.none-counts.ensures;
       runs = λ w h. none_compared (comparing c.args.manner.now.request.now.chosen c.args.manner.now.request.now.format w c.args.driver.now.sink.kept) c.args.sheet.now.contents.fields _ (g.W.Write.contents c.args.writer.now) (g.W.Write.contents c.tell_opening.new.writer) c.none-counts.result c.fields-fields.ensures

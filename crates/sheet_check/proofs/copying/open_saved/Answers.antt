@@ -1,4 +1,4 @@
-use Rattle.std.proofs.Common.{◌∙◌, subst}
+use Rattle.std.proofs.Common.{◌∙◌, subst, sym}
 use Rattle.disk_model.specs.Disk.{bytes_on, greatest_room}
 use Rattle.session_engine.specs.World.{world_at_opening}
 use Rattle.session_engine.specs.Host.{IsHost}
@@ -23,6 +23,7 @@ returns-in-Ok g c =
         is = image;
         opened = subst (λ room. OpenedOn (g.D.Disk.view c.args.disk) (world_at_opening ops room c.in-Ok.host.store.end) c.in-Ok.host.store.disk) c.requires.room
             (opened_on (g.D.Disk.view c.args.disk) c.in-Ok.host ops at_room c.in-Ok.ensures.found c.in-Ok.ensures.ends c.in-Ok.ensures.looks);
+        has = sym makes.is;
         holds = stands.stands.images;
       },
     )

@@ -1,0 +1,231 @@
+-- What `check --accept` puts in is what whole blocks answered on a copy.
+use Rattle.std.proofs.Common.{◌≡◌, ◌∙◌, ⊎_elim, ℕ, Bool, true, false, List, [], ◌∷◌, ◌++◌, Option, Some, None, refl, sym, ap, subst, append-nil, append_assoc, arith}
+use Rattle.std.specs.Prelude.{◌==◌, if◌then◌else◌}
+use Rattle.std.specs.List.{AllByRecursion}
+use Rattle.std.specs.Option.{option_map_or}
+use Rattle.std.proofs.lemmas.Bool.Decides.{nat_tests}
+use Rattle.std.proofs.lemmas.Grind.{flat_map-append}
+use Rattle.disk_model.specs.Disk.{DiskView}
+use Rattle.worksheet.specs.declared.op.Op.{Op}
+use Rattle.worksheet.specs.declared.field.Answer.{Answer}
+use Rattle.worksheet.specs.declared.field.Field.{Field}
+use Rattle.worksheet.specs.Checks.{field_in, numbers}
+use Rattle.worksheet.specs.Contents.{Contents}
+use Rattle.worksheet.specs.Edits.{AreApart, Lacks}
+use Rattle.worksheet.specs.Ops.{sheet_of}
+use Rattle.worksheet.proofs.Finds.{field_in-id}
+use Rattle.worksheet.proofs.NextLaws.{sound_of}
+use Rattle.host_events.specs.declared.event.Event.{Event}
+use Rattle.host_events.specs.declared.outcome.Outcome.{Outcome}
+use Rattle.session_engine.specs.World.{World, sheet_in, world_at_opening}
+use Rattle.session_engine.specs.Does.{Runs}
+use Rattle.host_laws.specs.Turns.{AnsweredIn, Has, HostStep, KeepField, StepsOf}
+use Rattle.host_laws.proofs.Going.{shown_by_host}
+use Rattle.child_edge.specs.Faithful.{At, Entry, at}
+use Rattle.child_edge.specs.Moments.{events_of, outcomes_of}
+use Rattle.driver.specs.Items.{ask}
+use Rattle.driver.proofs.Courses.{events_append, outcomes_append, runs_on}
+use Rattle.driver.proofs.Fronts.{leads_to}
+use Rattle.check_report.specs.declared.verdict.Verdict.{Verdict}
+use Rattle.check_report.specs.declared.verdict.Verdict.TheVariants as verdict
+use Rattle.check_report.specs.Chosen.{Judged, compared, is_chosen, left_out}
+use Rattle.check_report.specs.Reports.{Case, case}
+use Rattle.check_report.specs.Verdicts.{Compared, differs, new, same, unanswered}
+use Rattle.sheet_check.specs.Accept.{accepted, accepted_answer, accepted_of, answer_ops}
+use Rattle.sheet_check.specs.Kept.{answer_op}
+use Rattle.sheet_check.specs.Check.{IsCopy}
+use Rattle.sheet_check.specs.Driven.{copy_begins, copy_place, copy_rules, one_plan}
+use Rattle.sheet_check.specs.Evaluated.{OneByOne, Way, came_if, reason_shown_in, shown_in}
+use Rattle.sheet_check.specs.Fields.{Evaluated, FieldChecked, FieldsChecked, checked, comes_by, passed}
+use Rattle.sheet_check.proofs.Fields.{fields-more}
+use Rattle.driver_visits.specs.Copied.{AnsweredOnCopy, EvaluatedOnCopy, field_trace, fields_trace}
+
+-- Evaluations lead from world to world.
+
+leads_on : (w : World) (bs : List Entry) (m : World) (cs : List Entry) (v : World) → Runs w (events_of bs) (outcomes_of bs) m → Runs m (events_of cs) (outcomes_of cs) v
+    → Runs w (events_of (bs ++ cs)) (outcomes_of (bs ++ cs)) v
+leads_on w bs m cs v first after =
+    subst (λ (es : List Event). Runs w es (outcomes_of (bs ++ cs)) v) (sym (events_append bs cs))
+    (subst (λ (os : List Outcome). Runs w (events_of bs ++ events_of cs) os v) (sym (outcomes_append bs cs))
+    (runs_on w (events_of bs) (outcomes_of bs) m (events_of cs) (outcomes_of cs) v first after))
+
+field_leads : {C : Type 0} (o : OneByOne C) (field : Field) (s : At C) (cases : List Case) (t : At C) (c : FieldChecked o.way o.chosen field s cases t)
+    → Runs s.world (events_of (field_trace o field s cases t c)) (outcomes_of (field_trace o field s cases t c)) t.world
+field_leads o field s cases t (passed none) = refl
+field_leads o field s cases t (checked came took verdict u chosen evaluated judged) =
+    let driven = evaluated.driven in
+    leads_to (copy_rules o.way) (copy_begins (one_plan o.way field.id) driven.programs s) (copy_place driven.asked driven.agenda (record { kept = evaluated.marks }) t)
+    (ask ∷ []) [] driven.steps driven.ran
+
+fields_lead : {C : Type 0} (o : OneByOne C) (fields : List Field) (s : At C) (cases : List Case) (t : At C) (c : FieldsChecked o.way o.chosen fields s cases t)
+    → Runs s.world (events_of (fields_trace o fields s cases t c)) (outcomes_of (fields_trace o fields s cases t c)) t.world
+fields_lead o [] s cases t c = ap (λ (x : At _). x.world) c.1
+fields_lead o (field ∷ fields) s cases t c =
+    leads_on s.world (field_trace o field s c.1 c.0 c.3) c.0.world (fields_trace o fields c.0 c.2 t c.4) t.world
+    (field_leads o field s c.1 c.0 c.3) (fields_lead o fields c.0 c.2 t c.4)
+
+-- A field of a worksheet is the one with its number.
+
+lacks_it : (n : ℕ) (gone : List Field) (field : Field) (left : List Field) → Lacks n (numbers (gone ++ field ∷ left)) → (n == field.id) ≡ false
+lacks_it n [] field left lacks = let no = lacks.0 in grind (arith, nat_tests, no)
+lacks_it n (g ∷ gone) field left lacks = lacks_it n gone field left lacks.1
+
+finds_it : (gone : List Field) (field : Field) (left : List Field) → AreApart (numbers (gone ++ field ∷ left)) → field_in (gone ++ field ∷ left) field.id ≡ Some field
+finds_it [] field left apart = let here : (field.id == field.id) ≡ true = grind (arith, nat_tests) in rw here refl
+finds_it (g ∷ gone) field left apart = rw (lacks_it g.id gone field left apart.0) (finds_it gone field left apart.1)
+
+-- What was accepted came, and isn't what the field shows.
+
+-- the answer that came where one is accepted
+came_there : (came : Option Answer) (v : Verdict) (answer : Answer) → accepted_answer came v ≡ Some answer → came ≡ Some answer
+came_there came verdict.Same answer is = cc
+came_there came verdict.Differs answer is = is
+came_there came verdict.Unanswered answer is = cc
+came_there came verdict.LeftOut answer is = cc
+came_there came verdict.New answer is = is
+
+came_from : (asked : Bool) (shown : Option Answer) (answer : Answer) → came_if asked shown ≡ Some answer → shown ≡ Some answer
+came_from false shown answer is = cc
+came_from true shown answer is = is
+
+-- a field that shows an answer is there
+pub record ShowsIn (w : World) (id : ℕ) (answer : Answer) : Type 0 where
+  pub shown : Field
+  pub number : shown.id ≡ id
+  pub has : Has (sheet_in w) shown
+  pub shows : shown.answer ≡ Some answer
+
+shows_in : (w : World) (id : ℕ) (answer : Answer) → shown_in w id ≡ Some answer → ShowsIn w id answer
+shows_in w id answer is = go (field_in (sheet_in w).fields id) refl is
+  where
+    go : (found : Option Field) → field_in (sheet_in w).fields id ≡ found → option_map_or (λ (field : Field). field.answer) found None ≡ Some answer → ShowsIn w id answer
+    go None there no = cc
+    go (Some shown) there some =
+        let number = field_in-id (sheet_in w).fields id shown there in record {
+          shown = shown;
+          number = number;
+          has = ap (λ (n : ℕ). field_in (sheet_in w).fields n) number ∙ there;
+          shows = some;
+        }
+
+-- the answer isn't accepted that the field shows already
+not_again : (field : Field) (came : Option Answer) (v : Verdict) (answer : Answer) → Compared field.answer came v → field.answer ≡ Some answer → came ≡ Some answer → accepted_answer came v ≡ Some answer → ⊥
+not_again field came v answer judged shows is taken = go field.answer came v judged shows is taken
+  where
+    go : (shown came : Option Answer) (v : Verdict) → Compared shown came v → shown ≡ Some answer → came ≡ Some answer → accepted_answer came v ≡ Some answer → ⊥
+    go shown came v (same a b equal) shows is taken = let no : None ≡ Some answer = taken in cc
+    go shown came v (differs a b other) shows is taken = other (let x : a ≡ answer = cc in let y : b ≡ answer = cc in ap (λ (c : Answer). c.output) (y ∙ sym x))
+    go shown came v (new b) shows is taken = let no : None ≡ Some answer = shows in cc
+    go shown came v (unanswered a) shows is taken = let no : None ≡ Some answer = is in cc
+
+not_kept : {chosen : _} (field : Field) (came : Option Answer) (v : Verdict) (answer : Answer) → Judged chosen field came v → field.answer ≡ Some answer → accepted_answer came v ≡ Some answer → ⊥
+not_kept field came v answer (left_out out is) shows taken = let no : None ≡ Some answer = subst (λ (x : Verdict). accepted_answer came x ≡ Some answer) is taken in cc
+not_kept field came v answer (compared other judged) shows taken = not_again field came v answer judged shows (came_there came v answer taken) taken
+
+-- One copy, and the fields that were evaluated there one after another.
+module _ {C : Type 0} (o : OneByOne C) (sheet : Contents) (sources : C) (start : World) (copy : DiskView) (copied : IsCopy sheet start copy) where
+  abbrev first : At C
+  first = at start sources copy
+
+  abbrev OnCopy : Op → Type 0
+  OnCopy = AnsweredOnCopy o sheet sources
+
+  -- where a field was evaluated after those before it, it was there so when the copy was opened, or a step closed its answer
+  module _ (gone : List Field) (before : List Case) (mid : At C) (earlier : FieldsChecked o.way o.chosen gone first before mid) (field : Field) (left : List Field) (split : sheet.fields ≡ gone ++ field ∷ left)
+      (one : Case) (there : At C) (evaluated : FieldChecked o.way o.chosen field mid (one ∷ []) there) where
+    abbrev entries : List Entry
+    entries = fields_trace o gone first before mid earlier ++ field_trace o field mid (one ∷ []) there evaluated
+
+    abbrev opens : World
+    opens = world_at_opening copied.opened.ops copied.made.room copied.opened.end
+
+    run : Runs opens (events_of entries) (outcomes_of entries) there.world
+    run = subst (λ (w : World). Runs w (events_of entries) (outcomes_of entries) there.world) copied.opened.is
+        (leads_on start (fields_trace o gone first before mid earlier) mid.world (field_trace o field mid (one ∷ []) there evaluated) there.world
+        (fields_lead o gone first before mid earlier) (field_leads o field mid (one ∷ []) there evaluated))
+
+    shown-by : (steps : List HostStep) × StepsOf opens (events_of entries) (outcomes_of entries) steps there.world
+        × ((f : Field) (a : Answer) → f.answer ≡ Some a → Has (sheet_in there.world) f → (Has (sheet_of copied.opened.ops) f × KeepField f steps) ⊎ AnsweredIn steps f)
+    shown-by = shown_by_host copied.opened.ops copied.made.room copied.opened.end (events_of entries) (outcomes_of entries) there.world copied.opened.allowed run
+
+    abbrev on_copy : EvaluatedOnCopy o sheet sources field one
+    on_copy = record {
+      start = start;
+      copy = copy;
+      copied = copied;
+      gone = gone;
+      left = left;
+      split = split;
+      before = before;
+      mid = mid;
+      earlier = earlier;
+      there = there;
+      evaluated = evaluated;
+      steps = shown-by.0;
+      led = subst (λ (w : World). StepsOf w (events_of entries) (outcomes_of entries) shown-by.0 there.world) (sym copied.opened.is) shown-by.1;
+    }
+
+    same_sheet : sheet_of copied.opened.ops ≡ sheet
+    same_sheet = ap sheet_in (sym copied.opened.is) ∙ copied.has
+
+    apart : AreApart (numbers sheet.fields)
+    apart = subst (λ (s : Contents). AreApart (numbers s.fields)) same_sheet (sound_of copied.opened.ops copied.opened.allowed).apart
+
+    its_field : field_in sheet.fields field.id ≡ Some field
+    its_field = subst (λ (fs : List Field). AreApart (numbers fs) → field_in fs field.id ≡ Some field) (sym split) (finds_it gone field left) apart
+
+    -- the field that was there at first is the worksheet's
+    was_it : (shown : Field) → shown.id ≡ field.id → Has (sheet_of copied.opened.ops) shown → shown ≡ field
+    was_it shown number had =
+        let here : field_in sheet.fields field.id ≡ Some shown = subst (λ (n : ℕ). field_in sheet.fields n ≡ Some shown) number (subst (λ (s : Contents). field_in s.fields shown.id ≡ Some shown) same_sheet had) in
+        let both : Some field ≡ Some shown = sym its_field ∙ here in cc
+
+    came_so : (answer : Answer) → shown_in there.world field.id ≡ Some answer → (field.answer ≡ Some answer → ⊥) → OnCopy (answer_op field.id answer)
+    came_so answer shows other =
+        let s = shows_in there.world field.id answer shows in record {
+          field = field;
+          one = one;
+          on_copy = on_copy;
+          answer = answer;
+          puts = refl;
+          shown = s.shown;
+          number = s.number;
+          has = s.has;
+          shows = s.shows;
+          answered = ⊎_elim
+              (λ stayed. absurd (other (ap (λ (f : Field). f.answer) (sym (was_it s.shown s.number stayed.0)) ∙ s.shows)))
+              (λ answered. answered)
+              (shown-by.2 s.shown answer s.shows s.has);
+        }
+
+  whole_field : (gone : List Field) (before : List Case) (mid : At C) → FieldsChecked o.way o.chosen gone first before mid → (field : Field) (left : List Field) → sheet.fields ≡ gone ++ field ∷ left
+      → (cases : List Case) (there : At C) → FieldChecked o.way o.chosen field mid cases there → AllByRecursion OnCopy (accepted cases)
+  whole_field gone before mid earlier field left split cases there (passed none) = tt
+  whole_field gone before mid earlier field left split cases there (checked came took v u chosen evaluated judged) = go (accepted_answer came v) refl
+    where
+      go : (answer : Option Answer) → accepted_answer came v ≡ answer → AllByRecursion OnCopy (answer_ops field.id answer ++ [])
+      go None is = tt
+      go (Some answer) is = (
+        came_so gone before mid earlier field left split (case field came (reason_shown_in u.world field.id) v (Some took)) u (checked came took v u chosen evaluated judged) answer
+            (came_from (comes_by evaluated.marks field.id) (shown_in u.world field.id) answer (sym evaluated.came_is ∙ came_there came v answer is))
+            (λ shows. not_kept field came v answer judged shows is),
+        tt,
+      )
+
+  all_joined : (ops more : List Op) → AllByRecursion OnCopy ops → AllByRecursion OnCopy more → AllByRecursion OnCopy (ops ++ more)
+  all_joined [] more a b = b
+  all_joined (op ∷ ops) more a b = (a.0, all_joined ops more a.1 b)
+
+  whole_fields : (gone : List Field) (before : List Case) (mid : At C) → FieldsChecked o.way o.chosen gone first before mid → (fields left : List Field) → sheet.fields ≡ gone ++ (fields ++ left)
+      → (cases : List Case) (t : At C) → FieldsChecked o.way o.chosen fields mid cases t → AllByRecursion OnCopy (accepted cases)
+  whole_fields gone before mid earlier [] left split cases t c = subst (λ (l : List Case). AllByRecursion OnCopy (accepted l)) (sym c.0) tt
+  whole_fields gone before mid earlier (field ∷ fields) left split cases t c =
+      subst (λ (l : List Case). AllByRecursion OnCopy (accepted l)) (sym c.5)
+      (subst (AllByRecursion OnCopy) (sym (flat_map-append accepted_of c.1 c.2))
+      (all_joined (accepted c.1) (accepted c.2) (whole_field gone before mid earlier field (fields ++ left) split c.1 c.0 c.3)
+      (whole_fields (gone ++ field ∷ []) (before ++ c.1) c.0 (fields-more o gone field first before mid c.1 c.0 earlier c.3) fields left
+      (split ∙ sym (append_assoc gone (field ∷ []) (fields ++ left))) c.2 t c.4)))
+
+  -- what is accepted of the first fields, which were evaluated there
+  pub all_whole : (gone left : List Field) → sheet.fields ≡ gone ++ left → (cases : List Case) (mid : At C) → FieldsChecked o.way o.chosen gone first cases mid → AllByRecursion OnCopy (accepted cases)
+  all_whole gone left split cases mid c = whole_fields [] [] first (refl, refl) gone left split cases mid c
