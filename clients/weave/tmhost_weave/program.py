@@ -88,11 +88,11 @@ def arguments(words: List[str]) -> argparse.Namespace:
 def run(given: argparse.Namespace, text: str, watched: Optional[Watched]) -> bool:
     if given.test:
         with tempfile.TemporaryDirectory(prefix="tmhost-weave-") as folder:
-            weave = Weave(text, None, folder, given.no_errors, given.longest)
+            weave = Weave(text, None, folder, no_errors=given.no_errors, longest=given.longest)
             with within(weave.start):
                 return weave.test(given.seconds)
     with locked(os.path.realpath(text)):
-        weave = Weave(text, given.output, None, given.no_errors, given.longest, given.html, given.texts, watched)
+        weave = Weave(text, given.output, no_errors=given.no_errors, longest=given.longest, page=given.html, texts=given.texts, watched=watched)
         with within(weave.start):
             return weave.check() if given.check else weave.weave(given.seconds)
 

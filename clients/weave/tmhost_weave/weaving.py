@@ -53,15 +53,15 @@ def first_other_line(old: bytes, new: bytes) -> int:
 
 class Weave:
     """`output` is where the woven text goes: None for the text itself, "-" for standard output. `folder` is where the worksheet lies, if not beside the text.
-    `errors_fail` is whether an error is a failure where the options of its fence don't say; `longest` is how many bytes of an answer's text are shown. `page` is where a
+    `no_errors` is whether an error is a failure where the options of its fence don't say; `longest` is how many bytes of an answer's text are shown. `page` is where a
     page of it goes, a file or a folder, if anywhere, and `texts` are all those that get one by the same call. `watched` is what goes on after it, if anything."""
 
     def __init__(
-        self, name: str, output: Optional[str], folder: Optional[str] = None, errors_fail: bool = False, longest: int = LONGEST, page: Optional[str] = None,
+        self, name: str, output: Optional[str], folder: Optional[str] = None, no_errors: bool = False, longest: int = LONGEST, page: Optional[str] = None,
         texts: Sequence[str] = (), watched: Optional[Watched] = None,
     ) -> None:
         self.name, self.path, self.watched = name, os.path.realpath(name), watched
-        self.errors_fail, self.longest = errors_fail, longest
+        self.no_errors, self.longest = no_errors, longest
         self.target = None if output == "-" else self.path if output is None else os.path.realpath(output)
         self.sheet_path = sheet_path(os.path.join(folder, os.path.basename(self.path)) if folder else self.path)
         self.keeps = folder is None  # what was evaluated
@@ -340,7 +340,7 @@ class Weave:
 
     def fails(self, plan: Plan) -> bool:
         """Whether any of them is a failure."""
-        return any(self.errors_fail or ERRORS_FAIL in wanted.fence.flags for wanted in self.errors(plan))
+        return any(self.no_errors or ERRORS_FAIL in wanted.fence.flags for wanted in self.errors(plan))
 
     def is_error(self, wanted: Wanted) -> bool:
         field = None if wanted.failure or wanted.id is None else self.fields.get(wanted.id)

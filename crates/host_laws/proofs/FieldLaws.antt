@@ -14,6 +14,8 @@ use Rattle.worksheet.specs.Edits.{AllBelow}
 use Rattle.worksheet.proofs.OneMore.{about_from-push, last_of-push, field_of-push, changed}
 use Rattle.worksheet.proofs.Existence.{has_what_exists, allowed_goes_on}
 use Rattle.worksheet.proofs.NextLaws.{sound_of}
+use Rattle.worksheet.proofs.Finds.{field_in-id}
+use Rattle.host_laws.specs.Turns.{LeavesField}
 use Rattle.session_engine.specs.inside.Commits.{Spares}
 use Rattle.session_engine.proofs.Fields.{has_still}
 
@@ -174,3 +176,84 @@ cleared os id f allowed h =
     let now = is_there (os ++ op.Clear id ∷ []) id f allowed h in
     let here : (id == id) ≡ true = grind (arith, nat_tests) in
     ap (λ (g : Field). g.answer) (sym now.is ∙ field_of-push os (op.Clear id) id) ∙ ap (λ (b : Bool). (if b then changed (op.Clear id) (field_of os id) else field_of os id).answer) here
+
+-- A field stays.
+
+makes_none : (id next : ℕ) (o : Op) (was : Bool) → LeavesField id o → (next == id) ≡ false → is_about id next o ≡ true → (if makes_or_ends o then is_making (Some o) else was) ≡ was
+makes_none id next (op.Session name tab words) was h n a = refl
+makes_none id next (op.New after session input) was h n a = absurd (let no : true ≡ false = sym a ∙ n in cc)
+makes_none id next (op.Set other input) was h n a = refl
+makes_none id next (op.Remove other) was h n a = absurd (let no : true ≡ false = sym a ∙ h in cc)
+makes_none id next (op.Move other after) was h n a = refl
+makes_none id next (op.Clear other) was h n a = refl
+makes_none id next (op.Answer other prompt output) was h n a = refl
+makes_none id next (op.Lost other why) was h n a = refl
+makes_none id next (op.Ids number) was h n a = refl
+
+changes_none : (id next : ℕ) (o : Op) (f : Field) → LeavesField id o → (next == id) ≡ false → is_about id next o ≡ true → changed o f ≡ f
+changes_none id next (op.Session name tab words) f h n a = refl
+changes_none id next (op.New after session input) f h n a = absurd (let no : true ≡ false = sym a ∙ n in cc)
+changes_none id next (op.Set other input) f h n a = absurd (let no : true ≡ false = sym a ∙ h in cc)
+changes_none id next (op.Remove other) f h n a = refl
+changes_none id next (op.Move other after) f h n a = refl
+changes_none id next (op.Clear other) f h n a = absurd (let no : true ≡ false = sym a ∙ h in cc)
+changes_none id next (op.Answer other prompt output) f h n a = absurd (let no : true ≡ false = sym a ∙ h in cc)
+changes_none id next (op.Lost other why) f h n a = absurd (let no : true ≡ false = sym a ∙ h in cc)
+changes_none id next (op.Ids number) f h n a = refl
+
+-- where an op leaves it
+pub field_stays : (os : List Op) (o : Op) (f : Field) → Allowed os → Allowed (os ++ o ∷ []) → LeavesField f.id o → field_in (sheet_of os).fields f.id ≡ Some f → field_in (sheet_of (os ++ o ∷ [])).fields f.id ≡ Some f
+field_stays os o f allowed after leaves has =
+    let was = is_there os f.id f allowed has in
+    let n = not_next os f.id f allowed has in
+    found (os ++ o ∷ []) f.id f after (record {
+      there = exists-push os o f.id ∙ there (is_about f.id (next_of os) o) refl was.there n;
+      is = field_of-push os o f.id ∙ same (is_about f.id (next_of os) o) refl n ∙ was.is;
+    })
+  where
+    there : (b : Bool) → is_about f.id (next_of os) o ≡ b → exists os f.id ≡ true → (next_of os == f.id) ≡ false → (if b then (if makes_or_ends o then is_making (Some o) else exists os f.id) else exists os f.id) ≡ true
+    there true e h n = makes_none f.id (next_of os) o (exists os f.id) leaves n e ∙ h
+    there false e h n = h
+
+    same : (b : Bool) → is_about f.id (next_of os) o ≡ b → (next_of os == f.id) ≡ false → (if b then changed o (field_of os f.id) else field_of os f.id) ≡ field_of os f.id
+    same true e n = changes_none f.id (next_of os) o (field_of os f.id) leaves n e
+    same false e n = refl
+
+-- A field that an answer is put into, and that shows it then.
+pub record NowAnswered (os : List Op) (id : ℕ) (prompt : List ℕ) (out : Tree) : Type 0 where
+  pub field : Field
+  pub number : field.id ≡ id
+  pub has : field_in (sheet_of (os ++ op.Answer id prompt out ∷ [])).fields field.id ≡ Some field
+  pub by : AnsweredBy os (op.Answer id prompt out) field
+
+pub now_answered : (os : List Op) (id : ℕ) (prompt : List ℕ) (out : Tree) → Allowed os → Allowed (os ++ op.Answer id prompt out ∷ []) → has_field (sheet_of os) id ≡ true → NowAnswered os id prompt out
+now_answered os id prompt out allowed after has = go (field_in (sheet_of os).fields id) refl
+  where
+    o : Op
+    o = op.Answer id prompt out
+
+    here : (id == id) ≡ true
+    here = grind (arith, nat_tests)
+
+    go : (found_one : Option Field) → field_in (sheet_of os).fields id ≡ found_one → NowAnswered os id prompt out
+    go None e = absurd (let no : false ≡ true = sym (ap (λ (f : Option Field). is_some f) e) ∙ has in cc)
+    go (Some before) e =
+        let was = is_there os id before allowed e in
+        let number : before.id ≡ id = field_in-id (sheet_of os).fields id before e in
+        let now : Field = record before { answer = Some (record { prompt = prompt; output = out }); lost = None } in
+        record {
+          field = now;
+          number = number;
+          has = ap (λ (n : ℕ). field_in (sheet_of (os ++ o ∷ [])).fields n) number ∙ found (os ++ o ∷ []) id now after (record {
+            there = exists-push os o id ∙ rw here was.there;
+            is = field_of-push os o id ∙ rw here (ap (λ (f : Field). changed o f) was.is);
+          });
+          by = record {
+            prompt = prompt;
+            output = out;
+            is = ap (λ (n : ℕ). op.Answer n prompt out) (sym number);
+            before = before;
+            found = ap (λ (n : ℕ). field_in (sheet_of os).fields n) number ∙ e;
+            now = refl;
+          };
+        }

@@ -88,7 +88,7 @@ shown (step_first {w} {mid} {v} {e} {o} {es} {os} {steps} gives more) h own f a 
 pub sound : (ops : List Op) (room end : ℕ) → Allowed ops → Sound (world_at_opening ops room end)
 sound ops room end allowed = record { allowed = allowed; lives = tt }
 
-owned : (ops : List Op) (room end : ℕ) → Allowed ops → Owned (world_at_opening ops room end)
+pub owned : (ops : List Op) (room end : ℕ) → Allowed ops → Owned (world_at_opening ops room end)
 owned ops room end allowed = opened_owned (world_at_opening ops room end) (refl, allowed)
 
 -- What one host shows: a field that shows an answer was there at the opening and stayed as it is, or one of the steps closed its answer.

@@ -29,4 +29,5 @@ pub mod LinesAmong
 pub mod InFlight
 pub mod ApartAdds
 pub mod OwnReplies
+pub mod Reported
 pub mod Joined

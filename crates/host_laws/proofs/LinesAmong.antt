@@ -18,7 +18,6 @@ use Rattle.plugin_core.specs.inside.Words.{next_beyond, answered_with}
 use Rattle.plugin_core.specs.Steps.{Reads, step_of}
 use Rattle.plugin_core.specs.Steps.{closed_by as closed_in}
 use Rattle.plugin_core.proofs.Pasts.{items_of-received}
-use Rattle.host_laws.specs.inside.Given.{after}
 use Rattle.host_laws.specs.Laws.{lines_among}
 use Rattle.host_laws.proofs.Growing.{one_answer}
 

@@ -12,7 +12,7 @@ use Rattle.worksheet.specs.declared.refusal.Refusal.{Refusal}
 use Rattle.worksheet.specs.declared.field.Field.{Field}
 use Rattle.worksheet.specs.declared.field.Answer.{Answer}
 use Rattle.worksheet.specs.Ops.{sheet_of, field_of}
-use Rattle.worksheet.specs.Checks.{has_field, field_in, first_of, first_refusal}
+use Rattle.worksheet.specs.Checks.{has_field, field_in, first_of, first_refusal, refusals}
 use Rattle.worksheet.proofs.Finds.{none_applies, true_from_not}
 use Rattle.plugin_core.specs.declared.item.Item.{Item}
 use Rattle.plugin_core.specs.declared.item.Item.TheVariants as item
@@ -55,7 +55,8 @@ use Rattle.session_engine.proofs.Asking.{line_is}
 use Rattle.session_engine.proofs.Standing.{all_at}
 use Rattle.session_engine.proofs.Tables.{first_has_name}
 use Rattle.host_laws.specs.Turns.{Has, ClosesAnswer}
-use Rattle.host_laws.proofs.FieldLaws.{HasInput, AnsweredBy, by_op, is_there}
+use Rattle.worksheet.proofs.Existence.{allowed_goes_on}
+use Rattle.host_laws.proofs.FieldLaws.{HasInput, AnsweredBy, by_op, is_there, now_answered}
 use Rattle.host_laws.proofs.ApartFields.{HasOwner}
 use Rattle.host_laws.proofs.ApartOwners.{Owned, OwnsItems}
 use Rattle.host_laws.proofs.Living.{HasLine, SoundLife, Sound, gone, put, the_life, asked, pieced, committed, every_line, checked}
@@ -87,7 +88,7 @@ with_command_op w e o h free other = record {
 -- An answer.
 
 -- an op of an answer is that of a block which is the next answer
-record IsClosing (os : List Op) (past : List LifeEvent) (before after : List Outer) (piece : List ℕ) (id : ℕ) (prompt : List ℕ) (out : Tree) : Type 0 where
+pub record IsClosing (os : List Op) (past : List LifeEvent) (before after : List Outer) (piece : List ℕ) (id : ℕ) (prompt : List ℕ) (out : Tree) : Type 0 where
   line : ℕ
   text : List ℕ
   asked : slice_get (items_of past) line ≡ Some (item.Line id text)
@@ -232,6 +233,16 @@ module _ (w : World) (name : List ℕ) (number : ℕ) (l : Going) (piece : List 
         closes = one.closes c.block (last_of (answers_of l.past l.blocks) one.closed c.block (ap (λ (xs : List Outer). slice_get xs (length (answers_of l.past l.blocks))) (sym one.answers) ∙ c.newest));
         shows = ap (λ (g : Field). g.answer) by.now ∙ ap (λ (s : List ℕ). Some (record { prompt = s; output = by.output })) p ∙ ap (λ (b : Tree). Some (record { prompt = prompt_of l.past l.blocks; output = b })) t;
       }
+
+  -- where its step answers a line, the field of that line shows it then
+  pub answered_now : Owned w → (id : ℕ) (prompt : List ℕ) (out : Tree) → (step_of l.past l.blocks piece blocks fault).answered ≡ Some (answered.Line id prompt out)
+      → (f : Field) × (f.id ≡ id) × Has (sheet_of (w.ops ++ op.Answer id prompt out ∷ [])) f × ClosesAnswer w (event.Child name number (child.Piece piece)) f
+  answered_now own id prompt out a =
+      let o : Op = op.Answer id prompt out in
+      let next : first_refusal (sheet_in w) o ≡ None = subst (λ (x : Option Answered). AllowedIf (sheet_in w) (answer_op x)) a (answer_allowed w l piece blocks fault life) in
+      let has : has_field (sheet_in w) id ≡ true = true_from_not (has_field (sheet_in w) id) (none_applies (refusals (sheet_in w) o) next).0 in
+      let now = now_answered w.ops id prompt out h.allowed (allowed_goes_on w.ops o h.allowed next) has in
+      (now.field, now.number, now.has, closes own id prompt out (closing w.ops l.past l.blocks blocks piece id prompt out life.lines a) now.field now.by)
 
   without_op : (u : World) → u.ops ≡ w.ops → Sound u → Stepped w (event.Child name number (child.Piece piece)) u
   without_op u e sound = record { sound = sound; shown = λ own f answer some has. inl (subst (λ (os : List Op). Has (sheet_of os) f) e has) }

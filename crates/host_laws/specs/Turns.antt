@@ -1,5 +1,5 @@
 -- Hosts one after another on one disk, each from its opening to a crash, and what their worksheets show. (docs/dev/HOST.md.)
-use Rattle.std.specs.Prelude.{◌≡◌, ◌⊎◌, ℕ, suc, List, [], ◌∷◌, ◌++◌, length, Option, Some, drop, slice_get, Result, IfOk, IfErr}
+use Rattle.std.specs.Prelude.{◌≡◌, ◌⊎◌, ◌==◌, ℕ, suc, false, List, [], ◌∷◌, ◌++◌, length, Option, Some, drop, slice_get, Result, IfOk, IfErr}
 use Rattle.std.specs.List.{AllByRecursion}
 use Rattle.block_tree.specs.Output.{output}
 use Rattle.meta_format.specs.Stream.{Outer}
@@ -26,6 +26,9 @@ use Rattle.host_events.specs.declared.event.Event.{Event}
 use Rattle.host_events.specs.declared.event.Event.TheVariants as event
 use Rattle.host_events.specs.declared.outcome.HostFault.{HostFault}
 use Rattle.host_events.specs.declared.outcome.Outcome.{Outcome}
+use Rattle.host_events.specs.declared.reply.ChildReply.{ChildReply}
+use Rattle.host_events.specs.declared.reply.Closed.TheVariants as closed
+use Rattle.host_events.specs.declared.reply.Reply.TheVariants as reply
 use Rattle.session_engine.specs.World.{World, Going, world_at_opening, sheet_in, life_of, waiting_in, with_number}
 use Rattle.session_engine.specs.Does.{Gives, Runs}
 use Rattle.session_engine.specs.Crash.{LeftAmong, HasPlayed, StoppedAt}
@@ -199,6 +202,36 @@ abbrev pub HostsInTurn : Type 0
 HostsInTurn = (room : ℕ) (first : List Op) (before after : Image) (turns : List HostTurn)
     → Allowed first → IsSheetImage (sheet_of first) before → EachTurned room before turns after
     → LeftInTurn room first before after turns
+
+-- Reported answers.
+
+-- what an op is that leaves what the field with this number shows: it is about another field, moves this one, or makes something
+abbrev pub LeavesField : ℕ → Op → Type 0
+LeavesField id (op.Session name tab words) = Unit {0}
+LeavesField id (op.New after session input) = Unit {0}
+LeavesField id (op.Set other input) = (other == id) ≡ false
+LeavesField id (op.Remove other) = (other == id) ≡ false
+LeavesField id (op.Move other after) = Unit {0}
+LeavesField id (op.Clear other) = (other == id) ≡ false
+LeavesField id (op.Answer other prompt output) = (other == id) ≡ false
+LeavesField id (op.Lost other why) = (other == id) ≡ false
+LeavesField id (op.Ids number) = Unit {0}
+
+-- a step gave no op, or such a one
+abbrev pub StepLeavesField : ℕ → HostStep → Type 0
+StepLeavesField id s = (s.following.ops ≡ s.before.ops) ⊎ ((o : Op) × (s.following.ops ≡ s.before.ops ++ o ∷ []) × LeavesField id o)
+
+-- the outcome says that the line of this field was answered
+abbrev pub SaysAnswered : ℕ → Outcome → Type 0
+SaysAnswered id o = (reported : ChildReply) × (o.reply ≡ reply.Child reported) × (reported.closed ≡ Some (closed.Line id))
+
+-- A step had this outcome, that the line of a field was answered, and each later step of these hosts left the field. Then it shows the whole block that
+-- closed this answer, from that step on and in the end.
+abbrev pub ReportedAnswersStay : Type 0
+ReportedAnswersStay = (room : ℕ) (first : List Op) (before after : Image) (turns : List HostTurn) (left : LeftInTurn room first before after turns) → Allowed first
+    → (earlier later : List HostStep) (s : HostStep) (id : ℕ) (o : Outcome) → left.steps ≡ earlier ++ s ∷ later
+    → Gives s.before s.event o s.following → SaysAnswered id o → AllByRecursion (StepLeavesField id) later
+    → (f : Field) × (f.id ≡ id) × ClosesAnswer s.before s.event f × KeepField f (s ∷ later) × Has (sheet_of left.kept) f
 
 -- Where an evaluation was accepted, what its field shows from there on, while this host runs, is what a whole block answered to a line
 -- after it, or nothing, also where it was Stopped or its interpreter ended first.

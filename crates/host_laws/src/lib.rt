@@ -6,7 +6,7 @@ ghost use Rattle.host_laws.specs.Apart.{OthersAreSilent, SessionsAreIndependent,
 ghost use Rattle.host_laws.specs.Calls.{CallsLeavePrefixes};
 ghost use Rattle.host_laws.specs.OneHost.{StepsLeavePrefixes};
 ghost use Rattle.host_laws.specs.Together.{GroupsAreTurns, GroupsUpToAreTurns};
-ghost use Rattle.host_laws.specs.Turns.{EvaluatedAgain, EvaluatedAgainInTurn, HostsInTurn, PlaysAreTurns, StepsAreTurns};
+ghost use Rattle.host_laws.specs.Turns.{EvaluatedAgain, EvaluatedAgainInTurn, HostsInTurn, PlaysAreTurns, ReportedAnswersStay, StepsAreTurns};
 ghost use Rattle.host_laws.specs.Laws.{AnEventDoesOneThing, EachCommandHasAReply, EachEventHasAnOutcome, NothingIsShownInFlight, NothingOfAnEndedLife, NumbersAreGivenOnce, OutcomesLeadToOneWorld};
 
 mod made;
@@ -78,6 +78,12 @@ pub fn steps_leave_prefixes()
 /// The same of one whose caller gives it groups of events, too.
 pub fn calls_leave_prefixes()
     ensures { CallsLeavePrefixes }
+{}
+
+/// An answer that was reported is shown, whichever hosts come after, until an op sets, clears, removes or answers its field, or
+/// keeps a reason for it.
+pub fn reported_answers_stay()
+    ensures { ReportedAnswersStay }
 {}
 
 /// What a field shows after an accepted evaluation of it is what a whole block answered after it, or

@@ -2,8 +2,9 @@
 //! Its contract says what opens, and not that something does: that is seen here.
 use super::grouped;
 use arrivals::ScriptedSources;
+use block_tree::Queue;
 use bstr::ByteSlice;
-use child_calls::Scripted;
+use child_calls::{Got, Part, PieceBytes, Scripted};
 use disk_model::{Choice, Fill, MemoryDisk};
 use driver::Voiced;
 use driver_visits::{AfterCrash, RanThenCrashed, run_then_crash};
@@ -11,22 +12,27 @@ use script_agenda::ByScript;
 use sheet_text::sheet_text;
 use std::alloc::Global;
 use tellings::InWords;
+use worksheet::Name;
 
-/// A `print` ends a group, so that each change is acknowledged by itself.
+/// A `print` ends a group, so that each change is acknowledged by itself. The line of field 1 is answered before the second one.
 const SCRIPT: &[u8] =
-    b"session a plain p\nnew 0 a x\nprint\nnew 1 a y\nprint\nset 1 z\nprint\nremove 2\n";
+    b"session a plain p\nnew 0 a x\nprint\neval 1\nwait\nprint\nnew 1 a y\nprint\nset 1 z\nprint\nremove 2\n";
 
-/// The worksheet as it is printed before the script and after each of its groups.
-const TEXTS: [&[u8]; 5] = [
+/// What the interpreter writes: its banner, and the answer.
+const PIECES: [&[u8]; 2] = [b"\x02verbatim:p\x05", b"\x02verbatim:2\x05"];
+
+/// The worksheet as it is printed before the script and after each of its changes that shows.
+const TEXTS: [&[u8]; 6] = [
     b"",
     b"#1 a\n> x\n?\n",
-    b"#1 a\n> x\n?\n#2 a\n> y\n?\n",
+    b"#1 a\n> x\n2\n",
+    b"#1 a\n> x\n2\n#2 a\n> y\n?\n",
     b"#1 a\n> z\n?\n#2 a\n> y\n?\n",
     b"#1 a\n> z\n?\n",
 ];
 
 /// The place of the last of them.
-const LAST: usize = 4;
+const LAST: usize = 5;
 
 /// What a crash leaves of the ranges that were written since the last sync.
 const FILLS: [(Fill, bool); 5] = [
@@ -48,9 +54,52 @@ fn begun(alloc: Global) -> Option<MemoryDisk> {
     made.crash(&now).ok()
 }
 
-/// What is printed of the worksheet that opens after the run and a crash; None where none does.
-fn left(alloc: Global, choice: &Choice) -> Option<Vec<u8>> {
-    let sources = ScriptedSources::new(Scripted::new(alloc, Vec::new(alloc)), Vec::new(alloc));
+/// Whether the piece gets its place.
+fn is_added(alloc: Global, receives: &mut Queue<Got>, bytes: &[u8]) -> bool {
+    if bytes.is_empty() || bytes.len() > 65_536 {
+        return false;
+    }
+    match Vec::from_slice(alloc, bytes) {
+        Ok(bytes) if !bytes.is_empty() && bytes.len() <= 65_536 => receives
+            .push(Got::Piece(PieceBytes::from_vec(bytes)))
+            .is_ok(),
+        _ => false,
+    }
+}
+
+/// The life of session `a` that gives these pieces.
+fn interpreter(alloc: Global) -> Option<Scripted> {
+    let mut receives = Queue::new(alloc);
+    for bytes in PIECES {
+        if !is_added(alloc, &mut receives, bytes) {
+            return None;
+        }
+    }
+    let part = Part {
+        name: Name::new(b"a")?,
+        life: 1,
+        start: true,
+        sends: Queue::new(alloc),
+        receives,
+        interrupt: true,
+        stop: true,
+    };
+    let mut parts = Vec::new(alloc);
+    parts.push(part).ok()?;
+    Some(Scripted::new(alloc, parts))
+}
+
+/// What a run that is crashed at a moment comes to.
+enum Left {
+    /// The run has no such moment.
+    NotReached,
+    /// The worksheet that opens, as it is printed.
+    Worksheet(Vec<u8>),
+}
+
+/// What opens after the run and a crash; None where nothing does, or the run has a fault.
+fn left(alloc: Global, choice: &Choice) -> Option<Left> {
+    let sources = ScriptedSources::new(interpreter(alloc)?, Vec::new(alloc));
     let sink = Voiced {
         tells: InWords,
         writer: Vec::new(alloc),
@@ -67,49 +116,49 @@ fn left(alloc: Global, choice: &Choice) -> Option<Vec<u8>> {
     if answer.is_err() {
         return None;
     }
-    let AfterCrash::Opened(Ok(host)) = opened else {
-        return None;
-    };
-    let mut text = Vec::new(alloc);
-    match sheet_text(host.sheet(), &mut text) {
-        Ok(()) => Some(text),
-        Err(_) => None,
+    match opened {
+        AfterCrash::NotReached => Some(Left::NotReached),
+        AfterCrash::Opened(Ok(host)) => {
+            let mut text = Vec::new(alloc);
+            match sheet_text(host.sheet(), &mut text) {
+                Ok(()) => Some(Left::Worksheet(text)),
+                Err(_) => None,
+            }
+        }
+        _ => None,
     }
 }
 
-/// How many groups the worksheet has that a crash at this moment leaves; None where it is none of the script's, or nothing opens.
-fn groups_left(alloc: Global, moment: u64, fill: Fill, grown: bool) -> Option<usize> {
-    let text = left(
-        alloc,
-        &Choice {
+/// How many moments the run has, where a crash at each leaves a worksheet of the script, none an earlier one than the moment before it, and the last
+/// one that of all. None where that isn't so.
+fn moments(alloc: Global, fill: Fill, grown: bool) -> Option<u64> {
+    let mut shown = 0;
+    for moment in 0..1_000u64 {
+        let choice = Choice {
             moment,
             fill,
             grown,
-        },
-    )?;
-    TEXTS.iter().position(|one| *one == text.as_slice())
-}
-
-/// How many moments the run has in which a crash leaves a worksheet, where each leaves no fewer groups than the one before it, and the last
-/// one all. None where that isn't so.
-fn moments(alloc: Global, fill: Fill, grown: bool) -> Option<u64> {
-    let mut groups = 0;
-    for moment in 0..1_000u64 {
-        match groups_left(alloc, moment, fill, grown) {
-            Some(found) if found >= groups => groups = found,
-            Some(_) => return None,
-            None if groups == LAST => return Some(moment),
-            None => return None,
+        };
+        match left(alloc, &choice)? {
+            Left::NotReached if shown == LAST => return Some(moment),
+            Left::NotReached => return None,
+            Left::Worksheet(text) => {
+                let found = TEXTS.iter().position(|one| *one == text.as_slice())?;
+                if found < shown {
+                    return None;
+                }
+                shown = found;
+            }
         }
     }
     None
 }
 
 #[test]
-fn each_crash_of_a_run_leaves_what_was_acknowledged(rt: HostRuntime) {
+fn no_crash_of_a_run_leaves_less_than_one_before(rt: HostRuntime) {
     for (fill, grown) in FILLS {
-        // Four groups, each with two writes and two syncs at least.
+        // Six changes on the disk, each with two writes and two syncs at least.
         let found = moments(rt.alloc(), fill, grown);
-        assert!(rt; found >= Some(16), "{found:?} moments");
+        assert!(rt; found >= Some(24), "{found:?} moments");
     }
 }
