@@ -1,5 +1,5 @@
 #!/usr/bin/env python3
-"""Writes docs/trust/THEOREM.md, the theorem, and two pages after it: WORKED_RUN.md, an example, and DEFINITIONS.md, each definition and
+"""Writes docs/trust/THEOREM.md, the theorem, and three pages after it: PROGRAMS.md, the same of programs, WORKED_RUN.md, an example, and DEFINITIONS.md, each definition and
 type that the theorem needs, in the order in which a reader meets them.
 
     theorem/page.py           writes the pages, and prints how many definitions and lines there are
@@ -25,6 +25,7 @@ from sources import ROOT, Definition, Key, Sources, files, line_of, read  # noqa
 # What each page is made of. The definitions follow the text of the last one.
 PAGES = {
     "docs/trust/THEOREM.md": "theorem/head.md",
+    "docs/trust/PROGRAMS.md": "theorem/programs.md",
     "docs/trust/WORKED_RUN.md": "theorem/worked.md",
     "docs/trust/DEFINITIONS.md": "theorem/definitions.md",
 }
@@ -73,6 +74,9 @@ EXPANDED: set[Key] = {
     ("driver_visits.Runs", "OpensCrashed"),
     ("driver_visits.Runs", "OpensAfterCrash"),
     ("driver_visits.Runs", "RunsThenCrashes"),
+    ("driver_visits.Printed", "IsPart"),
+    ("driver_visits.Printed", "AreOf"),
+    ("driver_visits.Printed", "IsReportOf"),
     ("driver_visits.Copied", "field_trace"),
     ("driver_visits.Copied", "fields_trace"),
     ("driver_visits.Copied", "EvaluatedOnCopy"),

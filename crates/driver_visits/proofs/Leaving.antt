@@ -20,7 +20,8 @@ use Rattle.theorem.specs.Programs.{Invocations, cut_off, cut_since, ended, no_mo
 use Rattle.theorem.proofs.Reported.{opening_leaves}
 use Rattle.driver.specs.Reports.{Report}
 use Rattle.driver.specs.Items.{RunStep, ask, printed}
-use Rattle.driver.specs.Place.{Rules}
+use Rattle.driver.specs.Place.{RunPlace, Rules}
+use Rattle.driver.specs.Steps.{Run}
 use Rattle.driver.specs.Laws.{trace}
 use Rattle.driver.specs.Runs.{left_at_end}
 use Rattle.driver.specs.Over.{Over, ProgramParts, RanOver, first_place, not_opened, ran_over}
@@ -30,6 +31,7 @@ use Rattle.driver_visits.specs.Earlier.{CrashesLeave, EarlierUses, LeftWith}
 use Rattle.driver_visits.specs.Runs.{CrashOpens, LeavesPrefix, LeavesPrinted, OpenedAgain, OpeningLeaves, OpensAfterCrash, OpensCrashed, RunsThenCrashes, RunsThenOpens, not_begun, ran, run_reporting, run_act, unknown_reports, unopened, was_cut, with_disk}
 use Rattle.driver_visits.specs.Visits.{turn_of}
 use Rattle.driver_visits.proofs.Parts.{Parted, parted}
+use Rattle.driver_visits.proofs.Printing.{printed_of}
 use Rattle.driver_visits.proofs.Visiting.{durable_at, visit_by}
 
 -- uses after uses
@@ -52,8 +54,11 @@ module _ {A C K : Type 0} (hosts : HostsInTurn) (one : OneSheet) (R : Rules A C 
   ran_last : (turn : HostTurn) (after : Image) → Invocations first.disk.room (bytes_on first.disk) (turn ∷ []) after → LeftWith first.disk e (run_act turn) after
   ran_last turn after last_one = left_with hosts one first.disk e (run_act turn) after (turns_of last_one no_use)
 
+  abbrev at_end : RunPlace A C K
+  at_end = record { asked = it.asked; agenda = last.agenda; world = it.world; disk = last.disk; sources = it.sources; sink = last.sink }
+
   abbrev whole : Parted (world_at_opening it.opened.ops first.disk.room it.opened.end) it.opened.now (trace it.steps) last.disk
-  whole = parted R (first_place first it.opened) (record { asked = it.asked; agenda = last.agenda; world = it.world; disk = last.disk; sources = it.sources; sink = last.sink }) (ask ∷ []) (left_at_end answer) it.steps it.ran
+  whole = parted R (first_place first it.opened) at_end (ask ∷ []) (left_at_end answer) it.steps it.ran
 
   pub within : CrashesLeave first.disk e (unknown_reports (turn_of it.steps whole.events)) it.opened.now.history last.disk.history
   within after crashed = ran_last (record { events = (turn_of it.steps whole.events).events; reported = [] }) after
@@ -68,6 +73,8 @@ module _ {A C K : Type 0} (hosts : HostsInTurn) (one : OneSheet) (R : Rules A C 
         there = d.there;
         to_do = d.to_do;
         ran = d.ran;
+        of = printed_of R (first_place first it.opened) at_end (left_at_end answer) done rest r
+            (subst (λ (steps : List RunStep). Run R (first_place first it.opened) (ask ∷ []) steps (left_at_end answer) at_end) is it.ran);
         sink = d.sink;
         tries = d.tries;
         unreported = d.unreported;

@@ -3,4 +3,5 @@ pub mod Copying
 pub mod FiledUses
 pub mod Leaving
 pub mod Parts
+pub mod Printing
 pub mod Visiting

@@ -2,5 +2,6 @@ pub mod Acceptances
 pub mod Copied
 pub mod Earlier
 pub mod Filed
+pub mod Printed
 pub mod Runs
 pub mod Visits

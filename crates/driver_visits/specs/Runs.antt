@@ -25,6 +25,7 @@ use Rattle.driver_visits.specs.declared.crashed.AfterCrash.{AfterCrash}
 use Rattle.driver_visits.specs.declared.crashed.AfterCrash.TheVariants as left
 use Rattle.driver_visits.specs.Visits.{turn_of}
 use Rattle.driver_visits.specs.Earlier.{CrashesLeave, EarlierUses}
+use Rattle.driver_visits.specs.Printed.{IsReportOf}
 
 -- A crash while the worksheet is opened leaves what was there, on a disk that was restarted.
 abbrev pub OpeningLeaves : DiskView → History → Type 0
@@ -42,12 +43,13 @@ unknown_reports turn = run_act (record { events = turn.events; reported = [] })
 abbrev pub run_reporting : List RunStep → List Event → List RunStep → Act
 run_reporting steps unreported done = run_act (record { events = (turn_of steps unreported).events; reported = outcomes_of (trace done) })
 
--- This was printed where these steps, the first of the run, had led. A crash since its text was tried leaves the events of all these steps: they are
--- among what was reported, by the turn that has these events at its end of which nothing was.
+-- This was printed where these steps, the first of the run, had led, and it is of what they came to. A crash since its text was tried leaves the events of all
+-- these steps: they are among what was reported, by the turn that has these events at its end of which nothing was.
 pub record LeavesPrinted {A C K : Type 0} (R : Rules A C K) (first last : ProgramParts A C K) (answer : Result (Unit {0}) RunFault) (it : RanOver R first last answer) (e : EarlierUses first.disk) (done : List RunStep) (r : Report) : Type 0 where
   pub there : RunPlace A C K
   pub to_do : List Item
   pub ran : Run R (first_place first it.opened) (ask ∷ []) done to_do there
+  pub of : IsReportOf done r
   pub sink : K
   pub tries : Tries R.sink there.sink there.disk (printed_text R.sink.voice there.world r) true sink
   pub unreported : List Event

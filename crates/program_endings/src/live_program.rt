@@ -1,5 +1,5 @@
 //! The programs `live`, `run --json` and `run --timeout` over a worksheet's files, from its files on.
-ghost use Rattle.std.specs.Prelude.{◌≡◌, ◌&&◌, Err, IfErr, IfOk, Ok, ℕ, true};
+ghost use Rattle.std.specs.Prelude.{◌≡◌, ◌&&◌, Err, IfErr, IfOk, Ok, true};
 ghost use Rattle.line_agenda.specs.LinesAt.{LinesAt, stopped_at};
 ghost use Rattle.arrivals.specs.Held.{nothing_held};
 ghost use Rattle.program_endings.specs.Ending.{TellsFault, status_of};

@@ -1,5 +1,4 @@
 //! The program `check` over a worksheet's files, from its files on, whose fields go side by side.
-ghost use Rattle.std.specs.Prelude.{Result};
 ghost use Rattle.program_endings.specs.TogetherProgram.{TogetherDone, TogetherEnds};
 ghost use Rattle.program_endings.specs.Passing.{passed, run};
 
