@@ -20,7 +20,8 @@ use Rattle.host_events.specs.declared.outcome.Outcome.{Outcome}
 use Rattle.session_engine.specs.World.{World, sheet_in, world_at_opening}
 use Rattle.session_engine.specs.Does.{Runs}
 use Rattle.host_laws.specs.Turns.{AnsweredIn, Has, HostStep, KeepField, StepsOf}
-use Rattle.host_laws.proofs.Going.{shown_by_host}
+use Rattle.host_laws.proofs.FieldLaws.{HasInput}
+use Rattle.host_laws.proofs.Going.{shown_by_host, sound}
 use Rattle.child_edge.specs.Faithful.{At, Entry, at}
 use Rattle.child_edge.specs.Moments.{events_of, outcomes_of}
 use Rattle.driver.specs.Items.{ask}
@@ -38,6 +39,7 @@ use Rattle.sheet_check.specs.Driven.{copy_begins, copy_place, copy_rules, one_pl
 use Rattle.sheet_check.specs.Evaluated.{OneByOne, Way, came_if, reason_shown_in, shown_in}
 use Rattle.sheet_check.specs.Fields.{Evaluated, FieldChecked, FieldsChecked, checked, comes_by, passed}
 use Rattle.sheet_check.proofs.Fields.{fields-more}
+use Rattle.driver_visits.proofs.Evaluating.{AreOfEvals, entries_joined, inputs_stay, of_fields}
 use Rattle.driver_visits.specs.Copied.{AnsweredOnCopy, EvaluatedOnCopy, field_trace, fields_trace}
 
 -- Evaluations lead from world to world.
@@ -56,6 +58,18 @@ field_leads o field s cases t (checked came took verdict u chosen evaluated judg
     let driven = evaluated.driven in
     leads_to (copy_rules o.way) (copy_begins (one_plan o.way field.id) driven.programs s) (copy_place driven.asked driven.agenda (record { kept = evaluated.marks }) t)
     (ask ∷ []) [] driven.steps driven.ran
+
+-- of evaluations, and of what comes from lives
+field_evaluates : {C : Type 0} (o : OneByOne C) (field : Field) (s : At C) (cases : List Case) (t : At C) (c : FieldChecked o.way o.chosen field s cases t) → AreOfEvals (events_of (field_trace o field s cases t c))
+field_evaluates o field s cases t (passed none) = tt
+field_evaluates o field s cases t (checked came took verdict u chosen evaluated judged) =
+    let driven = evaluated.driven in
+    of_fields o.way (copy_begins (one_plan o.way field.id) driven.programs s) (copy_place driven.asked driven.agenda (record { kept = evaluated.marks }) t) driven.steps driven.ran
+
+fields_evaluate : {C : Type 0} (o : OneByOne C) (fields : List Field) (s : At C) (cases : List Case) (t : At C) (c : FieldsChecked o.way o.chosen fields s cases t) → AreOfEvals (events_of (fields_trace o fields s cases t c))
+fields_evaluate o [] s cases t c = tt
+fields_evaluate o (field ∷ fields) s cases t c =
+    entries_joined (field_trace o field s c.1 c.0 c.3) (fields_trace o fields c.0 c.2 t c.4) (field_evaluates o field s c.1 c.0 c.3) (fields_evaluate o fields c.0 c.2 t c.4)
 
 fields_lead : {C : Type 0} (o : OneByOne C) (fields : List Field) (s : At C) (cases : List Case) (t : At C) (c : FieldsChecked o.way o.chosen fields s cases t)
     → Runs s.world (events_of (fields_trace o fields s cases t c)) (outcomes_of (fields_trace o fields s cases t c)) t.world
@@ -174,6 +188,19 @@ module _ {C : Type 0} (o : OneByOne C) (sheet : Contents) (sources : C) (start :
     its_field : field_in sheet.fields field.id ≡ Some field
     its_field = subst (λ (fs : List Field). AreApart (numbers fs) → field_in fs field.id ≡ Some field) (sym split) (finds_it gone field left) apart
 
+    -- the field with its number has its input there
+    has_input : HasInput there.world.ops field.id field.input
+    has_input = inputs_stay field.id field.input opens (events_of entries) (outcomes_of entries) there.world (sound copied.opened.ops copied.made.room copied.opened.end copied.opened.allowed) run
+        (entries_joined (fields_trace o gone first before mid earlier) (field_trace o field mid (one ∷ []) there evaluated)
+        (fields_evaluate o gone first before mid earlier) (field_evaluates o field mid (one ∷ []) there evaluated))
+        (record { field = field; found = subst (λ (s : Contents). field_in s.fields field.id ≡ Some field) (sym same_sheet) its_field; input = refl })
+
+    same_input : (shown : Field) → shown.id ≡ field.id → Has (sheet_in there.world) shown → shown.input ≡ field.input
+    same_input shown number has =
+        let here : field_in (sheet_in there.world).fields field.id ≡ Some shown = subst (λ (n : ℕ). field_in (sheet_in there.world).fields n ≡ Some shown) number has in
+        let both : Some has_input.field ≡ Some shown = sym has_input.found ∙ here in
+        let is : has_input.field ≡ shown = cc in ap (λ (f : Field). f.input) (sym is) ∙ has_input.input
+
     -- the field that was there at first is the worksheet's
     was_it : (shown : Field) → shown.id ≡ field.id → Has (sheet_of copied.opened.ops) shown → shown ≡ field
     was_it shown number had =
@@ -190,6 +217,7 @@ module _ {C : Type 0} (o : OneByOne C) (sheet : Contents) (sources : C) (start :
           puts = refl;
           shown = s.shown;
           number = s.number;
+          input = same_input s.shown s.number s.has;
           has = s.has;
           shows = s.shows;
           answered = ⊎_elim

@@ -1,5 +1,6 @@
 pub mod Accepting
 pub mod Copying
+pub mod Evaluating
 pub mod FiledUses
 pub mod Leaving
 pub mod Parts

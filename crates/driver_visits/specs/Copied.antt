@@ -45,8 +45,8 @@ pub record EvaluatedOnCopy {C : Type 0} (o : OneByOne C) (sheet : Contents) (sou
   pub led : StepsOf start (events_of (fields_trace o gone (at start sources copy) before mid earlier ++ field_trace o field mid (one ∷ []) there evaluated))
       (outcomes_of (fields_trace o gone (at start sources copy) before mid earlier ++ field_trace o field mid (one ∷ []) there evaluated)) steps there.world
 
--- This op puts in an answer that came so: as the field of the copy showed it then, since one of the steps had closed it. So it is the output of a whole block
--- that answered the line of the copy's field.
+-- This op puts in an answer that came so: as the field of the copy showed it then, since one of the steps had closed it. That field has the input of the
+-- worksheet's. So the answer is the output of a whole block that answered its line.
 pub record AnsweredOnCopy {C : Type 0} (o : OneByOne C) (sheet : Contents) (sources : C) (put : Op) : Type 0 where
   pub field : Field
   pub one : Case
@@ -55,6 +55,7 @@ pub record AnsweredOnCopy {C : Type 0} (o : OneByOne C) (sheet : Contents) (sour
   pub puts : put ≡ answer_op field.id answer
   pub shown : Field
   pub number : shown.id ≡ field.id
+  pub input : shown.input ≡ field.input
   pub has : Has (sheet_in on_copy.there.world) shown
   pub shows : shown.answer ≡ Some answer
   pub answered : AnsweredIn on_copy.steps shown
