@@ -1,5 +1,5 @@
 -- What a run leaves, after whatever invocations there were.
-use Rattle.std.proofs.Common.{◌≡◌, ◌≤◌, List, [], ◌∷◌, ◌++◌, refl, sym, subst, IsTrue, ℕ}
+use Rattle.std.proofs.Common.{◌≡◌, ◌≤◌, ◌∙◌, List, [], ◌∷◌, ◌++◌, refl, sym, ap, subst, arith, length-append, IsTrue, ℕ}
 use Rattle.std.specs.Prelude.{Result, length}
 use Rattle.std.proofs.Math.Nat.{le_refl}
 use Rattle.disk_model.specs.Disk.{AtMoment, DiskState, DiskView, History, Image, IsImage, Looks, bytes_on}
@@ -119,6 +119,19 @@ module _ {A C K D : Type 0} (hosts : HostsInTurn) (one : OneSheet) (R : Rules A 
       (λ restarted crash crashed. opening_leaves (bytes_on first.disk) first.disk disk crash restarted (was.looks model) crashed)
       (still_opens disk kept (was.looks model) after)
 
+-- A moment of an earlier history.
+
+back_of : {A : Type 0} (xs ys later zs : List A) → xs ++ ys ≡ later ++ zs → length zs ≤ length ys → (front : List A) × (ys ≡ front ++ zs)
+back_of [] ys later zs same few = (later, same)
+back_of (x ∷ xs) ys [] zs same few =
+    let all : length (x ∷ xs ++ ys) ≡ length zs = ap (λ (l : List _). length l) same in absurd (omega (arith, all, length-append xs ys, few))
+back_of (x ∷ xs) ys (l ∷ later) zs same few = let rest : xs ++ ys ≡ later ++ zs = cc in back_of xs ys later zs rest few
+
+at_earlier : (old new : History) (more : List DiskState) (moment : ℕ) (s : DiskState) → new.now ∷ new.past ≡ more ++ old.now ∷ old.past → AtMoment moment new s → moment ≤ length old.past → AtMoment moment old s
+at_earlier old new more moment s is at few =
+    let back = back_of more (old.now ∷ old.past) at.later (s ∷ at.earlier) (sym is ∙ at.states) (let place = at.moment_is in omega (arith, place, few)) in
+    record { later = back.0; earlier = at.earlier; states = back.1; moment_is = at.moment_is }
+
 -- A crash left this image of the disk at this moment, and it was opened.
 module _ {A C K D : Type 0} (hosts : HostsInTurn) (one : OneSheet) (R : Rules A C K) (first last : ProgramParts A C K) (answer : Result (Unit {0}) RunFault) (it : RanOver R first last answer) (model : IsTrue first.disk.keeps_model)
     (moment : ℕ) (state : DiskState) (at : AtMoment moment last.disk.history state) (crash : DiskView) (kept : IsTrue crash.keeps_model) (image : IsImage state (bytes_on crash))
@@ -129,9 +142,19 @@ module _ {A C K D : Type 0} (hosts : HostsInTurn) (one : OneSheet) (R : Rules A 
   abbrev crashed_at : (from : History) → length from.past ≤ moment → CrashedSince from last.disk.history (bytes_on crash)
   crashed_at from since = record { moment = moment; state = state; at = at; since = since; leaves = image }
 
+  -- while the worksheet was being opened
+  crashed_before : length first.disk.history.past ≤ moment → moment ≤ length it.opened.now.history.past → CrashedSince first.disk.history it.opened.now.history (bytes_on crash)
+  crashed_before since until =
+      let all = (whole hosts one R first last answer it model e).moments it.opened.holds in
+      let from = all.1 (subst IsTrue (sym it.opened.same.keeps_model) model) in
+      record { moment = moment; state = state; at = at_earlier it.opened.now.history last.disk.history from.more moment state from.states at until; since = since; leaves = image }
+
   pub opens_after_crash : OpensAfterCrash R first last answer it moment (bytes_on crash) opened e
   opens_after_crash = record {
     unreported = (whole hosts one R first last answer it model e).events;
+    opening = λ restarted since until.
+        let same = opening hosts one R first last answer it model e restarted (bytes_on crash) (crashed_before since until) in
+        after kept first.disk.room e.ops e.image e.acts e.allowed e.found (subst (λ (i : Image). Uses first.disk.room e.image e.acts i) (sym same) e.came);
     within = λ since.
         opens_with (unknown_reports (turn_of it.steps (whole hosts one R first last answer it model e).events))
         (within hosts one R first last answer it model e (bytes_on crash) (crashed_at it.opened.now.history since));

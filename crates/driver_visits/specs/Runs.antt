@@ -93,10 +93,12 @@ pub record OpensCrashed {D : Type 0} (choice : Choice) (disk : DiskView) (opened
   pub keeps_model : IsTrue crash.keeps_model
   pub opens : OpensAfterActs crash opened
 
--- What is opened on the image that a crash left at this moment of a run: where the worksheet had been opened by then, the worksheet after a prefix of the
--- run's events, which has all that had been printed.
+-- What is opened on the image that a crash left at this moment of a run: what was there, while the worksheet was being opened, on a disk that was restarted;
+-- where it had been opened by then, the worksheet after a prefix of the run's events, which has all that had been printed.
 pub record OpensAfterCrash {A C K D : Type 0} (R : Rules A C K) (first last : ProgramParts A C K) (answer : Result (Unit {0}) RunFault) (it : RanOver R first last answer) (moment : ℕ) (after : Image) (opened : Result HostView (OpenFault D)) (e : EarlierUses first.disk) : Type 0 where
   pub unreported : List Event
+  pub opening : IsRestarted (bytes_on first.disk) first.disk → length first.disk.history.past ≤ moment → moment ≤ length it.opened.now.history.past
+      → OpensSo first.disk.room e.ops e.image after e.acts opened
   pub within : length it.opened.now.history.past ≤ moment → OpensSo first.disk.room e.ops e.image after (e.acts ++ unknown_reports (turn_of it.steps unreported) ∷ []) opened
   pub printed_is : (done rest : List RunStep) (r : Report) → it.steps ≡ done ++ printed r ∷ rest
       → (p : LeavesPrinted R first last answer it e done r)

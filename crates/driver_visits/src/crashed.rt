@@ -55,9 +55,9 @@ fn open_crashed(alloc: Global, disk: &MemoryDisk, choice: &Choice) -> AfterCrash
 /// opens what is left: each write since the last sync is there, or not, or torn, as the choice says.
 ///
 /// The disk keeps the model by proof, so the contract rests on no assumption of disks: what opens is the worksheet after a prefix of the
-/// run's events, with all that had been printed by then; where the run didn't open it, what was there. Of a crash while a run opens its
-/// worksheet the contract of `run_then_open` says what is left. Nothing is opened where the run made fewer calls than the choice has before
-/// the crash. Where it made as many, that is so only where memory is refused for the image; that it was, no clause says.
+/// run's events, with all that had been printed by then; where the run hadn't opened it, what was there. Nothing is opened where the run
+/// made fewer calls than the choice has before the crash. Where it made as many, that is so only where memory is refused for the image;
+/// that it was, no clause says.
 pub fn run_then_crash<S: Sources, K: Sink, A: Agenda>(
     alloc: Global,
     disk: MemoryDisk,
