@@ -1,14 +1,17 @@
 """What a person is shown of each fault: its path, what it means and what to do."""
 
+import asyncio
 import os
 import re
 import subprocess
 import unittest
+from typing import Callable, Tuple
 
 from support import PROGRAM, ROOT, WORDS, Case, needs_program
 
-from tmhost import Died, Lost, NoWorksheet, Refused, Worksheet
+from tmhost import AsyncWorksheet, Died, Lost, NoWorksheet, Refused, Worksheet, check, run
 from tmhost.advice import ADVICE, OF_A_CACHE, OF_LOSSES, OF_REFUSALS, UNSEEN, advised, reason_of_end
+from tmhost.program import NOT_UTF8
 
 FAULTS, SCRIPT = (os.path.join(ROOT, "docs", "use", name) for name in ("FAULTS.md", "SCRIPT.md"))
 ROW = re.compile(r"^\| (\d+) (\w+)", re.MULTILINE)
@@ -65,6 +68,9 @@ class Table(unittest.TestCase):
     def test_of_what_stands_on_standard_error(self) -> None:
         self.assertEqual(reason_of_end("fault 34 NotEmpty\n", 1, "x"), f"fault 34 NotEmpty: {ADVICE[34]}")
         self.assertEqual(reason_of_end("no such task\n", 2, "x"), "tmhost ended with status 2: no such task")
+        self.assertEqual(reason_of_end("", 2, "x"), "tmhost ended with status 2")
+        self.assertEqual(reason_of_end("", -9, "x\udcff"), "tmhost ended by signal 9")
+        self.assertEqual(reason_of_end("fault 34 NotEmpty\n", 1, "x\udcff"), f"fault 34 NotEmpty: {ADVICE[34]}")
 
 
 @needs_program
@@ -147,6 +153,29 @@ class Real(Case):
         made = subprocess.run([PROGRAM, "create", path], capture_output=True)
         said = reason_of_end(made.stderr.decode(), made.returncode, path)
         self.assertEqual(said, f"fault 32 Disk: there is no folder {os.path.dirname(path)}; make it, or take another path")
+
+    def test_a_path_that_is_not_utf8(self) -> None:
+        """The program refuses it without a text. Each call that starts it says why, and a client that starts it by itself does."""
+        for bad in (os.path.join(self.folder, "bad\udcff.sheet"), os.path.join(self.folder, "bad\udcff", "sheet")):
+            os.makedirs(os.path.dirname(bad), exist_ok=True)
+
+            async def opened(create: bool) -> None:
+                async with AsyncWorksheet(bad, create=create, program=PROGRAM):
+                    pass
+
+            calls: Tuple[Callable[[], object], ...] = (
+                lambda: Worksheet(bad, create=True, program=PROGRAM), lambda: Worksheet(bad, program=PROGRAM), lambda: Worksheet(bad, program=PROGRAM, partial=True),
+                lambda: asyncio.run(opened(True)), lambda: asyncio.run(opened(False)), lambda: list(check(bad, program=PROGRAM)), lambda: list(run(bad, "print\n", program=PROGRAM)),
+            )  # fmt: skip
+            for call in calls:
+                with self.assertRaises(Died) as caught:
+                    call()
+                self.assertEqual((caught.exception.number, caught.exception.status), (None, 2))
+                self.assertEqual(advised(caught.exception, bad), f"tmhost ended with status 2: {NOT_UTF8}")
+            made = subprocess.run([PROGRAM, "create", bad], capture_output=True)
+            self.assertEqual((made.returncode, made.stderr), (2, b""))
+            self.assertEqual(reason_of_end(made.stderr.decode(), made.returncode, bad), f"tmhost ended with status 2: {NOT_UTF8}")
+            self.assertFalse(os.path.lexists(bad))
 
 
 if __name__ == "__main__":

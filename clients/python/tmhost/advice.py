@@ -5,7 +5,7 @@ import os
 from typing import Dict, Iterator, Optional
 
 from .errors import DISK, Died, Lost, NoWorksheet, Refused, plain
-from .program import death, fault_in
+from .program import death, fault_in, with_reason
 from .starting import doubt
 
 SECOND = ".alt"  # of a worksheet's second file
@@ -120,7 +120,7 @@ def why_lost(lost: Lost) -> str:
 
 def reason_of_end(said: str, status: int, path: str) -> str:
     """Why a program has ended, by what stands on its standard error, of a worksheet whose path was named."""
-    return reason(death(fault_in(said), said, status, None), path)
+    return reason(death(fault_in(said), with_reason(said, status, path), status, None), path)
 
 
 def cause_of(path: str) -> Optional[str]:

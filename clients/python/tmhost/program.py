@@ -15,6 +15,8 @@ from .reading import Fault
 
 FAULT = re.compile(r"^fault (\d+) (\w+)(?: (\d+))?$", re.MULTILINE)
 NOT_EMPTY, IN_USE = 34, 35
+BAD_WORDS = 2  # the status where words are refused
+NOT_UTF8 = "the worksheet's path isn't UTF-8, as words of tmhost have to be: give the file, or its folder, another name"
 LONGEST_SAYING = 65_536  # bytes of standard error that are kept
 PARTIAL = "--partial"
 HELP = ("help", "live")
@@ -98,6 +100,20 @@ def fault_in(reported: str) -> Optional[Fault]:
     return Fault(int(found[1]), found[2], int(found[3]) if found[3] else None) if found else None
 
 
+def isnt_utf8(path: str) -> bool:
+    """Whether a path has bytes that aren't UTF-8."""
+    try:
+        os.fsencode(path).decode("utf-8")
+    except UnicodeError:
+        return True
+    return False
+
+
+def with_reason(reported: str, status: Optional[int], path: str) -> str:
+    """What stands on standard error at the end of the program; and where its words were refused for a path, why, which it doesn't say."""
+    return NOT_UTF8 if status == BAD_WORDS and not reported.strip() and isnt_utf8(path) else reported
+
+
 def missing(path: str) -> Optional[str]:
     """The path, where nothing is there that could be opened."""
     try:
@@ -121,7 +137,7 @@ def death(fault: Optional[Fault], reported: str, status: Optional[int], lacks: O
 
 def refuse_uncreated(path: str, status: Optional[int], errors: bytes) -> None:
     """Raises why a `create` made nothing, but where somebody else has made it meanwhile."""
-    reported = errors.decode("utf-8", "backslashreplace")
+    reported = with_reason(errors.decode("utf-8", "backslashreplace"), status, path)
     fault = fault_in(reported)
     if status == 0 or (fault and fault.number == NOT_EMPTY and os.path.exists(path)):
         return
@@ -159,9 +175,10 @@ class Child:
             return self.process.poll()
 
     def said(self) -> str:
-        """What stands on its standard error, at its end."""
+        """What stands on its standard error, at its end, or the reason of that which it doesn't say."""
         with self._errors:
-            return os.pread(self._errors.fileno(), LONGEST_SAYING, 0).decode("utf-8", "backslashreplace")
+            reported = os.pread(self._errors.fileno(), LONGEST_SAYING, 0).decode("utf-8", "backslashreplace")
+        return with_reason(reported, self.status(), self.path)
 
     def close(self) -> None:
         """Ends it, where it runs, and waits for that. What it says isn't asked for any more."""

@@ -24,7 +24,7 @@ LINE_END = "\u2028"
 
 sys.path[:0] = [os.path.join(ROOT, "clients", name) for name in ("python", "fences", "")]
 from tested import PROGRAM as PROGRAM, WHY, children_of as children_of, fields_of, heed_interrupts as heed_interrupts  # noqa: E402
-from tmhost import Field, Worksheet  # noqa: E402
+from tmhost import Field, Worksheet as Worksheet  # noqa: E402
 
 
 def environment(**more: str) -> Dict[str, str]:

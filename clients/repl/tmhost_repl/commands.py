@@ -1,11 +1,11 @@
 """The lines that are for the program itself. Any other line is for the interpreter, also where it begins with `%`."""
 
 import difflib
-from typing import Callable, Dict, List, Optional, Tuple, Union
+from typing import Callable, Dict, List, Optional, Sequence, Tuple, Union
 
 from tmhost import BadLine, Cell, Refused, Worksheet
 from tmhost.advice import OF_REFUSALS
-from tmhost.starting import doubt
+from tmhost.starting import doubt, never_answers
 
 from .console import Console
 from .evaluation import Evaluator, Outcome
@@ -67,8 +67,10 @@ class Commands:
         handler(words)
 
     def enter(self, session: str) -> None:
+        words = self.worksheet.sessions[session].words
+        refuse_bare(session, words)
         self.session = session
-        why = doubt(self.worksheet.sessions[session].words)
+        why = doubt(words)
         if why:
             self.console.note(harmless(f"{session}: {why}"))
         self.lines.enter(self.worksheet.sessions[session])
@@ -89,6 +91,7 @@ class Commands:
         if name not in self.worksheet.sessions and not more:
             raise Mistake(f"there is no session {name}: %session {name} WORDS .. makes it")
         if more:
+            refuse_bare(name, more)
             ensure(self.worksheet, name, more, False)
         self.enter(name)
 
@@ -118,9 +121,13 @@ class Commands:
         self._evaluate(self._code(cells[place:]))
 
     def _code(self, cells: List[Cell]) -> List[int]:
-        """Those of these fields that an interpreter evaluates, so none of prose."""
-        sessions = self.worksheet.sessions
-        return [cell.id for cell in cells if sessions[cell.field.session].words != PROSE]
+        """Those of these fields that an interpreter evaluates: none of prose, and none of a session that never answers, which is said."""
+        words = {session.name: session.words for session in self.worksheet.sessions.values()}
+        names = [cell.field.session for cell in cells]
+        bare = {name: why for name in dict.fromkeys(names) if (why := never_answers(words[name]))}
+        for name, why in bare.items():
+            self.console.fail(f"not evaluated: {names.count(name)} of {name}: {why}")
+        return [cell.id for cell, name in zip(cells, names) if words[name] != PROSE and name not in bare]
 
     def _evaluate(self, ids: List[int]) -> None:
         """One after another: an interpreter that ends takes the answer of one field alone, and those after it keep theirs, since they
@@ -147,6 +154,13 @@ class Commands:
 
     def _quit(self, words: List[str]) -> None:
         self.is_over = True
+
+
+def refuse_bare(name: str, words: Sequence[str]) -> None:
+    """A session that certainly never answers isn't made, and isn't gone to: its first line would be waited for without end."""
+    why = never_answers(words)
+    if why:
+        raise Mistake(f"{name}: {why}")
 
 
 def ensure(worksheet: Worksheet, name: str, words: List[str], tab: bool) -> Optional[str]:

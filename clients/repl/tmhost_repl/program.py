@@ -12,7 +12,7 @@ from tmhost.advice import advised
 from tmhost.program import show_building
 from tmhost.version import ShowVersion
 
-from .commands import PROSE, Commands, Mistake, ensure, explained
+from .commands import PROSE, Commands, Mistake, ensure, explained, refuse_bare
 from .completion import Draft
 from .console import Console, Terminal, new_console
 from .evaluation import Evaluator, control_c_raises
@@ -39,7 +39,8 @@ def options(words: List[str]) -> argparse.Namespace:
 
 
 def opened(given: argparse.Namespace, console: Console) -> Worksheet:
-    """The worksheet, made where it isn't there and is wanted."""
+    """The worksheet, made where it isn't there and is wanted. Words that start no interpreter for it are refused before."""
+    refuse_bare(given.session or "", given.words)
     if not given.create and not os.path.lexists(given.sheet):
         if not console.is_terminal:
             raise Mistake(f"there is no worksheet {given.sheet}: --create makes it")

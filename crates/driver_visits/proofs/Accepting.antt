@@ -12,8 +12,8 @@ use Rattle.worksheet.specs.declared.field.Answer.{Answer}
 use Rattle.worksheet.specs.Contents.{Contents}
 use Rattle.worksheet.specs.Ops.{sheet_of}
 use Rattle.recovery.specs.Sheets.{IsEither, IsSheetImage}
-use Rattle.session_engine.specs.World.{World}
 use Rattle.theorem.specs.Acts.{AreAnswers, HasFirst, PutsAnswer}
+use Rattle.host_events.specs.declared.outcome.HostFault.TheVariants as hosts
 use Rattle.offline_programs.specs.declared.fault.RunFault.{RunFault}
 use Rattle.offline_programs.specs.declared.fault.RunFault.TheVariants as fault
 use Rattle.check_report.specs.declared.chosen.Chosen.{Chosen}
@@ -22,18 +22,15 @@ use Rattle.check_report.specs.declared.verdict.VerdictCounts.{VerdictCounts}
 use Rattle.check_report.specs.Reports.{Case, report_front}
 use Rattle.sheet_check.specs.Accept as ends
 use Rattle.sheet_check.specs.Accept.{AcceptAnswer, AcceptLeft, Acceptance, FiledAll, FiledBut, FoundOn, SheetAccepts, acceptance, accepted, accepted_answer, accepted_of, answer_ops, filing, opened, to_accept, unopened}
-use Rattle.sheet_check.specs.Check.{IsCopy, Passage, SheetLed, passage}
-use Rattle.child_edge.specs.Faithful.{At, at}
-use Rattle.worksheet.specs.declared.field.Field.{Field}
+use Rattle.sheet_check.specs.Check.{Passage, passage}
 use Rattle.sheet_check.specs.Evaluated.{OneByOne, Way}
 use Rattle.sheet_check.specs.Kept.{IsAmong}
 use Rattle.sheet_check.specs.Named.{ByNames, all_named, answer_as, missing_named, no_field}
 use Rattle.sheet_check.specs.declared.named.CheckFault.{CheckFault}
 use Rattle.sheet_check.specs.declared.named.CheckFault.TheVariants as checks
-use Rattle.sheet_check.specs.Fields.{FieldsChecked}
-use Rattle.driver_visits.specs.Acceptances.{LeftByAcceptance, ReportedAcceptance, only_read, put_in}
-use Rattle.driver_visits.specs.Copied.{AnsweredOnCopy}
-use Rattle.driver_visits.proofs.Copying.{all_whole}
+use Rattle.driver_visits.specs.Acceptances.{FromCopy, LeftByAcceptance, ReportedAcceptance, only_read, put_in}
+use Rattle.driver_visits.specs.Copied.{AnsweredOnCopy, PutFromCopy, RanOnCopy, all_fields, broke_off, first_fields}
+use Rattle.driver_visits.proofs.Copying.{ran_whole}
 
 -- ops that put answers, after each other
 answers_joined : (first others : List Op) → AreAnswers first → AreAnswers others → AreAnswers (first ++ others)
@@ -76,6 +73,11 @@ but_first ops more one i (inr following) = record {
   image = subst (λ (os : List Op). IsSheetImage (sheet_of os) i) (append_assoc ops more (one ∷ [])) following;
 }
 
+-- the first of ops that are all so
+front_of : (P : Op → Type 0) (first more : List Op) → AllByRecursion P (first ++ more) → AllByRecursion P first
+front_of P [] more all = tt
+front_of P (op ∷ first) more all = (all.0, front_of P first more all.1)
+
 module _ (held : Option (List ℕ) → DiskView → Type 0) (disk back : DiskView) (model : IsTrue disk.keeps_model) (sheet : Contents) (ops : List Op) (now : DiskView) (found : FoundOn disk sheet ops now) {C : Type 0} (way : Way C) (chosen : Chosen) (c d : C) (text b : Option (List ℕ)) where
   abbrev o : OneByOne C
   o = to_accept way chosen
@@ -86,22 +88,22 @@ module _ (held : Option (List ℕ) → DiskView → Type 0) (disk back : DiskVie
   abbrev x : Acceptance
   x = acceptance held disk back
 
-  abbrev Left : List Case → Type 0
-  Left = LeftByAcceptance o q x
+  abbrev Left : Result VerdictCounts CheckFault → List Case → Type 0
+  Left answer = LeftByAcceptance o q x answer
 
-  -- each of these was a whole block on a copy
-  abbrev Whole : List Op → Type 0
-  Whole = AllByRecursion (AnsweredOnCopy o (sheet_of ops) c)
+  -- what these cases gave came from a copy
+  abbrev Whole : List Case → List Op → Type 0
+  Whole cases put = FromCopy o (sheet_of ops) q cases put
 
   found-on : IsSheetImage (sheet_of ops) (bytes_on disk)
   found-on = subst (λ (s : Contents). IsSheetImage s (bytes_on disk)) found.is (found.found model)
 
   -- nothing was put in
-  none-left : back ≡ now → Left []
-  none-left is =
+  none-left : (answer : Result VerdictCounts CheckFault) → back ≡ now → Left answer []
+  none-left answer is =
       let here : (i : Image) → IsSheetImage sheet i → HasFirst ops [] [] i = λ i image. all_first ops [] i
       (subst (λ (s : Contents). IsSheetImage s i) (found.is ∙ ap sheet_of (sym (append-nil ops))) image) in
-      subst (λ (d : DiskView). LeftByAcceptance o q (acceptance held disk d) []) (sym is)
+      subst (λ (d : DiskView). LeftByAcceptance o q (acceptance held disk d) answer []) (sym is)
       (put_in ops []
       (record {
         keeps_model = model;
@@ -118,10 +120,10 @@ module _ (held : Option (List ℕ) → DiskView → Type 0) (disk back : DiskVie
       (inl refl)
       (λ keeps i image. here i (found.durable model i image))
       tt
-      tt)
+      (inl (refl, refl)))
 
-  all-left : (cases : List Case) → FiledAll (filing held ops now back) text cases → Whole (accepted cases) → Left cases
-  all-left cases filed whole =
+  all-left : (answer : Result VerdictCounts CheckFault) (cases : List Case) → FiledAll (filing held ops now back) text cases → Whole cases (accepted cases) → Left answer cases
+  all-left answer cases filed whole =
       let holds = filed.0 in
       put_in ops (accepted cases)
       (record {
@@ -141,8 +143,9 @@ module _ (held : Option (List ℕ) → DiskView → Type 0) (disk back : DiskVie
       filed.1
       whole
 
-  but-left : (cases : List Case) (one : Op) → PutsAnswer one → FiledBut (filing held ops now back) text cases one → Whole (accepted cases ++ one ∷ []) → Left cases
-  but-left cases one is_one filed whole =
+  but-left : (answer : Result VerdictCounts CheckFault) (cases : List Case) (one : Op) → PutsAnswer one → answer ≡ Err (checks.Run (fault.Host hosts.Disk)) → FiledBut (filing held ops now back) text cases one
+      → Whole cases (accepted cases ++ one ∷ []) → Left answer cases
+  but-left answer cases one is_one failed filed whole =
       let put = accepted cases in
       let holds = filed.0 in
       put_in ops (put ++ one ∷ [])
@@ -158,83 +161,87 @@ module _ (held : Option (List ℕ) → DiskView → Type 0) (disk back : DiskVie
       })
       (found.looks model)
       holds.same
-      (inr (one, refl))
+      (inr (failed, one, refl))
       (λ keeps i image. but_first ops put one i (holds.holds keeps i image))
       filed.1
       whole
 
-  -- what is accepted of fields that were evaluated on a copy
-  wholes : (start : World) (copy : DiskView) → IsCopy sheet start copy → (gone left : List Field) → sheet.fields ≡ gone ++ left → (cases : List Case) (mid : At C) → FieldsChecked o.way o.chosen gone (at start c copy) cases mid
-      → Whole (accepted cases)
-  wholes start copy copied gone left split cases mid checked =
-      subst (λ (s : Contents). AllByRecursion (AnsweredOnCopy o s c) (accepted cases)) found.is (all_whole o sheet c start copy copied gone left split cases mid checked)
+  -- the first of what is accepted of fields that were evaluated on a copy
+  came-from : (all : List Case) (run : RanOnCopy o sheet q all) (put rest : List Op) → accepted all ≡ put ++ rest → PutFromCopy o (sheet_of ops) q all put
+  came-from all run put rest is =
+      subst (λ (s : Contents). PutFromCopy o s q all put) found.is
+      (record { run = run; rest = rest; puts = is; whole = front_of (AnsweredOnCopy o sheet q all run) put rest (subst (AllByRecursion (AnsweredOnCopy o sheet q all run)) is (ran_whole o sheet q all run)) })
 
-  abbrev led-whole : (cases : List Case) → SheetLed o sheet c d cases → Whole (accepted cases)
-  led-whole cases led = wholes led.start led.copy led.copied led.gone led.left led.split cases led.mid led.checked
+  -- all of it
+  all-of : (cases : List Case) → RanOnCopy o sheet q cases → Whole cases (accepted cases)
+  all-of cases run = inr (cases, inl refl, came-from cases run (accepted cases) [] (sym (append-nil (accepted cases))))
 
-  -- the last of these is accepted so
-  last-whole : (cases : List Case) (last : Case) (one : Op) → accepted_of last ≡ one ∷ [] → Whole (accepted (cases ++ last ∷ [])) → Whole (accepted cases ++ one ∷ [])
-  last-whole cases last one taken whole =
-      subst Whole (flat_map-append accepted_of cases (last ∷ []) ∙ ap (λ (l : List Op). accepted cases ++ l) (append-nil (accepted_of last) ∙ taken)) whole
+  -- that of the last one, too, which wasn't reported
+  with-last : (cases : List Case) (last : Case) (one : Op) → accepted_of last ≡ one ∷ [] → RanOnCopy o sheet q (cases ++ last ∷ []) → Whole cases (accepted cases ++ one ∷ [])
+  with-last cases last one taken run = inr (
+    cases ++ last ∷ [],
+    inr (last, refl),
+    came-from (cases ++ last ∷ []) run (accepted cases ++ one ∷ []) []
+        (flat_map-append accepted_of cases (last ∷ []) ∙ ap (λ (l : List Op). accepted cases ++ l) (append-nil (accepted_of last) ∙ taken) ∙ sym (append-nil (accepted cases ++ one ∷ []))),
+  )
 
-  -- those before it are
-  front-whole : (first more : List Op) → Whole (first ++ more) → Whole first
-  front-whole [] more all = tt
-  front-whole (op ∷ first) more all = (all.0, front-whole first more all.1)
-
-  first-whole : (cases : List Case) (last : Case) → Whole (accepted (cases ++ last ∷ [])) → Whole (accepted cases)
-  first-whole cases last whole = front-whole (accepted cases) (accepted (last ∷ [])) (subst Whole (flat_map-append accepted_of cases (last ∷ [])) whole)
+  -- but that of the last one, which didn't fit
+  but-last : (cases : List Case) (last : Case) → RanOnCopy o sheet q (cases ++ last ∷ []) → Whole cases (accepted cases)
+  but-last cases last run =
+      inr (cases ++ last ∷ [], inr (last, refl), came-from (cases ++ last ∷ []) run (accepted cases) (accepted (last ∷ [])) (flat_map-append accepted_of cases (last ∷ [])))
 
   abbrev Reported : Result VerdictCounts CheckFault → Type 0
   Reported = ReportedAcceptance o q x
 
   -- the report of these cases was written, and nothing after it
-  wrote-front : (cases : List Case) (why : CheckFault) → Appends text b (report_front format.Accepting cases) → Left cases → Reported (Err why)
+  wrote-front : (cases : List Case) (why : CheckFault) → Appends text b (report_front format.Accepting cases) → Left (Err why) cases → Reported (Err why)
   wrote-front cases why wrote left = record {
     cases = cases;
     wrote = λ written. subst (Appends text b) (sym (append-nil (report_front format.Accepting cases))) wrote;
+    counted = tt;
     left = left;
   }
 
   -- the writer failed
-  unreported : (cases : List Case) (why : RunFault) → why ≡ fault.Output → FiledAll (filing held ops now back) text cases → Whole (accepted cases) → Reported (Err (checks.Run why))
+  unreported : (cases : List Case) (why : RunFault) → why ≡ fault.Output → FiledAll (filing held ops now back) text cases → Whole cases (accepted cases) → Reported (Err (checks.Run why))
   unreported cases why is filed whole = record {
     cases = cases;
     wrote = λ written. absurd (written (ap (λ (x : RunFault). Err (checks.Run x)) is));
-    left = all-left cases filed whole;
+    counted = tt;
+    left = all-left (Err (checks.Run why)) cases filed whole;
   }
 
   broke-off : (why : RunFault) → AcceptLeft o sheet q (filing held ops now back) why → Reported (Err (checks.Run why))
-  broke-off why (ends.halted cases led wrote holds) =
-      wrote-front cases (checks.Run why) wrote (all-left cases holds (wholes led.start led.copy led.copied led.gone led.left led.split cases led.mid led.checked))
-  broke-off why (ends.unremembered cases is led wrote holds) = wrote-front cases (checks.Run why) wrote (all-left cases holds (led-whole cases led))
+  broke-off why (ends.halted cases led wrote holds) = wrote-front cases (checks.Run why) wrote (all-left (Err (checks.Run why)) cases holds (all-of cases (broke_off led)))
+  broke-off why (ends.unremembered cases is led wrote holds) = wrote-front cases (checks.Run why) wrote (all-left (Err (checks.Run why)) cases holds (all-of cases (first_fields led)))
   broke-off why (ends.full cases last one is led taken wrote holds place) =
-      wrote-front cases (checks.Run why) wrote (all-left cases holds (first-whole cases last (led-whole (cases ++ last ∷ []) led)))
+      wrote-front cases (checks.Run why) wrote (all-left (Err (checks.Run why)) cases holds (but-last cases last (first_fields led)))
   broke-off why (ends.broken cases last one is led taken wrote holds) =
-      wrote-front cases (checks.Run why) wrote (but-left cases one (one_answer last one taken) holds (last-whole cases last one taken (led-whole (cases ++ last ∷ []) led)))
-  broke-off why (ends.unwritten cases last is led holds) = unreported (cases ++ last ∷ []) why is holds (led-whole (cases ++ last ∷ []) led)
-  broke-off why (ends.uncounted cases is led all holds) = unreported cases why is holds (led-whole cases led)
+      wrote-front cases (checks.Run why) wrote
+      (but-left (Err (checks.Run why)) cases one (one_answer last one taken) (ap (λ (x : RunFault). Err (checks.Run x)) is) holds (with-last cases last one taken (first_fields led)))
+  broke-off why (ends.unwritten cases last is led holds) = unreported (cases ++ last ∷ []) why is holds (all-of (cases ++ last ∷ []) (first_fields led))
+  broke-off why (ends.uncounted cases is led all holds) = unreported cases why is holds (all-of cases (first_fields led))
 
   pub came : (nothing : Type 0) → (nothing → Appends text b []) → (counted : Result VerdictCounts RunFault)
       → SheetAccepts o sheet q nothing (filing held ops now back) counted → Reported (answer_as counted)
   came nothing unwritten (Ok counts) (checked, holds) = record {
     cases = checked.cases;
     wrote = λ written. checked.wrote;
-    left = all-left checked.cases holds
-        (wholes checked.start checked.copy checked.copied sheet.fields [] (sym (append-nil sheet.fields)) checked.cases checked.leads checked.checked);
+    counted = checked.counted;
+    left = all-left (Ok counts) checked.cases holds (all-of checked.cases (all_fields checked));
   }
-  came nothing unwritten (Err why) (inl (is, none, holds)) = wrote-front [] (checks.Run why) (unwritten none) (all-left [] holds tt)
+  came nothing unwritten (Err why) (inl (is, none, holds)) = wrote-front [] (checks.Run why) (unwritten none) (all-left (Err (checks.Run why)) [] holds (inl (refl, refl)))
   came nothing unwritten (Err why) (inr left) = broke-off why left
 
   pub named : (nothing : Type 0) → (nothing → Appends text b []) → (missing : Option ℕ) (answer : Result VerdictCounts CheckFault)
       → ByNames missing (nothing × (back ≡ now)) (SheetAccepts o sheet q nothing (filing held ops now back)) answer → Reported answer
   named nothing unwritten missing answer (no_field id there is (none, same)) =
-      subst Reported (sym is) (wrote-front [] (checks.NoField id) (unwritten none) (none-left same))
+      subst Reported (sym is) (wrote-front [] (checks.NoField id) (unwritten none) (none-left (Err (checks.NoField id)) same))
   named nothing unwritten missing answer (all_named counted there is came_so) = subst Reported (sym is) (came nothing unwritten counted came_so)
 
 pub acceptance_filed : {C : Type 0} (way : Way C) (chosen : Chosen) (x : Acceptance) (q : Passage C) (nothing : Type 0) → (nothing → Appends q.text q.written []) → (answer : Result VerdictCounts CheckFault)
     → IsTrue x.disk.keeps_model → AcceptAnswer (to_accept way chosen) x q nothing answer → ReportedAcceptance (to_accept way chosen) q x answer
 acceptance_filed way chosen x q nothing unwritten answer model (unopened why is none reason reads) =
-    subst (ReportedAcceptance (to_accept way chosen) q x) (sym is) (record { cases = []; wrote = λ written. unwritten none; left = only_read reads })
+    subst (ReportedAcceptance (to_accept way chosen) q x) (sym is) (record { cases = []; wrote = λ written. unwritten none; counted = tt; left = only_read reads })
 acceptance_filed way chosen x q nothing unwritten answer model (opened sheet ops now found by_names) =
     named x.held x.disk x.back model sheet ops now found way chosen q.sources q.left q.text q.written nothing unwritten (missing_named chosen sheet.fields) answer by_names

@@ -1,11 +1,10 @@
 -- What `check --accept` puts in is what whole blocks answered on a copy.
-use Rattle.std.proofs.Common.{◌≡◌, ◌∙◌, ⊎_elim, ℕ, Bool, true, false, List, [], ◌∷◌, ◌++◌, Option, Some, None, refl, sym, ap, subst, append-nil, append_assoc, arith}
-use Rattle.std.specs.Prelude.{◌==◌, if◌then◌else◌}
+use Rattle.std.proofs.Common.{◌≡◌, ◌⊎◌, ◌∙◌, ⊎_elim, ℕ, Bool, true, false, List, [], ◌∷◌, ◌++◌, Option, Some, None, refl, sym, ap, subst, append-nil, append_assoc, arith}
+use Rattle.std.specs.Prelude.{◌==◌}
 use Rattle.std.specs.List.{AllByRecursion}
 use Rattle.std.specs.Option.{option_map_or}
 use Rattle.std.proofs.lemmas.Bool.Decides.{nat_tests}
 use Rattle.std.proofs.lemmas.Grind.{flat_map-append}
-use Rattle.disk_model.specs.Disk.{DiskView}
 use Rattle.worksheet.specs.declared.op.Op.{Op}
 use Rattle.worksheet.specs.declared.field.Answer.{Answer}
 use Rattle.worksheet.specs.declared.field.Field.{Field}
@@ -22,25 +21,27 @@ use Rattle.session_engine.specs.Does.{Runs}
 use Rattle.host_laws.specs.Turns.{AnsweredIn, Has, HostStep, KeepField, StepsOf}
 use Rattle.host_laws.proofs.FieldLaws.{HasInput}
 use Rattle.host_laws.proofs.Going.{shown_by_host, sound}
-use Rattle.child_edge.specs.Faithful.{At, Entry, at}
+use Rattle.child_edge.specs.Faithful.{At, Entry}
 use Rattle.child_edge.specs.Moments.{events_of, outcomes_of}
 use Rattle.driver.specs.Items.{ask}
 use Rattle.driver.proofs.Courses.{events_append, outcomes_append, runs_on}
 use Rattle.driver.proofs.Fronts.{leads_to}
 use Rattle.check_report.specs.declared.verdict.Verdict.{Verdict}
 use Rattle.check_report.specs.declared.verdict.Verdict.TheVariants as verdict
-use Rattle.check_report.specs.Chosen.{Judged, compared, is_chosen, left_out}
+use Rattle.check_report.specs.Chosen.{Judged, compared, left_out}
 use Rattle.check_report.specs.Reports.{Case, case}
 use Rattle.check_report.specs.Verdicts.{Compared, differs, new, same, unanswered}
 use Rattle.sheet_check.specs.Accept.{accepted, accepted_answer, accepted_of, answer_ops}
 use Rattle.sheet_check.specs.Kept.{answer_op}
-use Rattle.sheet_check.specs.Check.{IsCopy}
-use Rattle.sheet_check.specs.Driven.{copy_begins, copy_place, copy_rules, one_plan}
-use Rattle.sheet_check.specs.Evaluated.{OneByOne, Way, came_if, reason_shown_in, shown_in}
-use Rattle.sheet_check.specs.Fields.{Evaluated, FieldChecked, FieldsChecked, checked, comes_by, passed}
+use Rattle.sheet_check.specs.Check.{IsCopy, Passage}
+use Rattle.driver.specs.Place.{source_rules}
+use Rattle.sheet_check.specs.Driven.{copy_begins, copy_place, copy_rules, counts_as_there, one_plan}
+use Rattle.sheet_check.specs.Marks.{mark_rules}
+use Rattle.sheet_check.specs.Evaluated.{OneByOne, came_if, reason_shown_in, shown_in}
+use Rattle.sheet_check.specs.Fields.{FieldChecked, FieldsChecked, checked, comes_by, passed}
 use Rattle.sheet_check.proofs.Fields.{fields-more}
 use Rattle.driver_visits.proofs.Evaluating.{AreOfEvals, entries_joined, inputs_stay, of_fields}
-use Rattle.driver_visits.specs.Copied.{AnsweredOnCopy, EvaluatedOnCopy, field_trace, fields_trace}
+use Rattle.driver_visits.specs.Copied.{AnsweredOnCopy, EvaluatedOnCopy, RanOnCopy, all_fields, broke_off, field_trace, fields_trace, first_fields, place_at_first, place_at_last, world_at_first}
 
 -- Evaluations lead from world to world.
 
@@ -64,7 +65,7 @@ field_evaluates : {C : Type 0} (o : OneByOne C) (field : Field) (s : At C) (case
 field_evaluates o field s cases t (passed none) = tt
 field_evaluates o field s cases t (checked came took verdict u chosen evaluated judged) =
     let driven = evaluated.driven in
-    of_fields o.way (copy_begins (one_plan o.way field.id) driven.programs s) (copy_place driven.asked driven.agenda (record { kept = evaluated.marks }) t) driven.steps driven.ran
+    of_fields counts_as_there (source_rules o.way.after o.way.wakes o.way.clock) mark_rules (copy_begins (one_plan o.way field.id) driven.programs s) (copy_place driven.asked driven.agenda (record { kept = evaluated.marks }) t) driven.steps driven.ran
 
 fields_evaluate : {C : Type 0} (o : OneByOne C) (fields : List Field) (s : At C) (cases : List Case) (t : At C) (c : FieldsChecked o.way o.chosen fields s cases t) → AreOfEvals (events_of (fields_trace o fields s cases t c))
 fields_evaluate o [] s cases t c = tt
@@ -113,7 +114,7 @@ shows_in : (w : World) (id : ℕ) (answer : Answer) → shown_in w id ≡ Some a
 shows_in w id answer is = go (field_in (sheet_in w).fields id) refl is
   where
     go : (found : Option Field) → field_in (sheet_in w).fields id ≡ found → option_map_or (λ (field : Field). field.answer) found None ≡ Some answer → ShowsIn w id answer
-    go None there no = cc
+    go None there none = cc
     go (Some shown) there some =
         let number = field_in-id (sheet_in w).fields id shown there in record {
           shown = shown;
@@ -137,44 +138,48 @@ not_kept field came v answer (left_out out is) shows taken = let no : None ≡ S
 not_kept field came v answer (compared other judged) shows taken = not_again field came v answer judged shows (came_there came v answer taken) taken
 
 -- One copy, and the fields that were evaluated there one after another.
-module _ {C : Type 0} (o : OneByOne C) (sheet : Contents) (sources : C) (start : World) (copy : DiskView) (copied : IsCopy sheet start copy) where
+module _ {C : Type 0} (o : OneByOne C) (sheet : Contents) (q : Passage C) (all : List Case) (run : RanOnCopy o sheet q all) (copied : IsCopy sheet (world_at_first run) (place_at_first run).disk) (at_start : (place_at_first run).world ≡ world_at_first run) where
   abbrev first : At C
-  first = at start sources copy
+  first = place_at_first run
 
   abbrev OnCopy : Op → Type 0
-  OnCopy = AnsweredOnCopy o sheet sources
+  OnCopy = AnsweredOnCopy o sheet q all run
 
   -- where a field was evaluated after those before it, it was there so when the copy was opened, or a step closed its answer
-  module _ (gone : List Field) (before : List Case) (mid : At C) (earlier : FieldsChecked o.way o.chosen gone first before mid) (field : Field) (left : List Field) (split : sheet.fields ≡ gone ++ field ∷ left)
-      (one : Case) (there : At C) (evaluated : FieldChecked o.way o.chosen field mid (one ∷ []) there) where
+  module _ (gone : List Field) (before : List Case) (mid : At C) (earlier : FieldsChecked o.way o.chosen gone first before mid) (one : Case) (left others : List Field) (split : sheet.fields ≡ gone ++ (one.field ∷ (left ++ others)))
+      (there : At C) (evaluated : FieldChecked o.way o.chosen one.field mid (one ∷ []) there) (after : List Case) (cases : all ≡ before ++ one ∷ after) (later : FieldsChecked o.way o.chosen left there after (place_at_last run)) where
+    abbrev field : Field
+    field = one.field
+
     abbrev entries : List Entry
     entries = fields_trace o gone first before mid earlier ++ field_trace o field mid (one ∷ []) there evaluated
 
     abbrev opens : World
     opens = world_at_opening copied.opened.ops copied.made.room copied.opened.end
 
-    run : Runs opens (events_of entries) (outcomes_of entries) there.world
-    run = subst (λ (w : World). Runs w (events_of entries) (outcomes_of entries) there.world) copied.opened.is
-        (leads_on start (fields_trace o gone first before mid earlier) mid.world (field_trace o field mid (one ∷ []) there evaluated) there.world
+    ran : Runs opens (events_of entries) (outcomes_of entries) there.world
+    ran = subst (λ (w : World). Runs w (events_of entries) (outcomes_of entries) there.world) (at_start ∙ copied.opened.is)
+        (leads_on first.world (fields_trace o gone first before mid earlier) mid.world (field_trace o field mid (one ∷ []) there evaluated) there.world
         (fields_lead o gone first before mid earlier) (field_leads o field mid (one ∷ []) there evaluated))
 
     shown-by : (steps : List HostStep) × StepsOf opens (events_of entries) (outcomes_of entries) steps there.world
         × ((f : Field) (a : Answer) → f.answer ≡ Some a → Has (sheet_in there.world) f → (Has (sheet_of copied.opened.ops) f × KeepField f steps) ⊎ AnsweredIn steps f)
-    shown-by = shown_by_host copied.opened.ops copied.made.room copied.opened.end (events_of entries) (outcomes_of entries) there.world copied.opened.allowed run
+    shown-by = shown_by_host copied.opened.ops copied.made.room copied.opened.end (events_of entries) (outcomes_of entries) there.world copied.opened.allowed ran
 
-    abbrev on_copy : EvaluatedOnCopy o sheet sources field one
+    abbrev on_copy : EvaluatedOnCopy o sheet q all run one
     on_copy = record {
-      start = start;
-      copy = copy;
-      copied = copied;
       gone = gone;
       left = left;
+      others = others;
       split = split;
       before = before;
+      after = after;
+      cases = cases;
       mid = mid;
       earlier = earlier;
       there = there;
       evaluated = evaluated;
+      later = later;
       steps = shown-by.0;
       led = subst (λ (w : World). StepsOf w (events_of entries) (outcomes_of entries) shown-by.0 there.world) (sym copied.opened.is) shown-by.1;
     }
@@ -186,11 +191,11 @@ module _ {C : Type 0} (o : OneByOne C) (sheet : Contents) (sources : C) (start :
     apart = subst (λ (s : Contents). AreApart (numbers s.fields)) same_sheet (sound_of copied.opened.ops copied.opened.allowed).apart
 
     its_field : field_in sheet.fields field.id ≡ Some field
-    its_field = subst (λ (fs : List Field). AreApart (numbers fs) → field_in fs field.id ≡ Some field) (sym split) (finds_it gone field left) apart
+    its_field = subst (λ (fs : List Field). AreApart (numbers fs) → field_in fs field.id ≡ Some field) (sym split) (finds_it gone field (left ++ others)) apart
 
     -- the field with its number has its input there
     has_input : HasInput there.world.ops field.id field.input
-    has_input = inputs_stay field.id field.input opens (events_of entries) (outcomes_of entries) there.world (sound copied.opened.ops copied.made.room copied.opened.end copied.opened.allowed) run
+    has_input = inputs_stay field.id field.input opens (events_of entries) (outcomes_of entries) there.world (sound copied.opened.ops copied.made.room copied.opened.end copied.opened.allowed) ran
         (entries_joined (fields_trace o gone first before mid earlier) (field_trace o field mid (one ∷ []) there evaluated)
         (fields_evaluate o gone first before mid earlier) (field_evaluates o field mid (one ∷ []) there evaluated))
         (record { field = field; found = subst (λ (s : Contents). field_in s.fields field.id ≡ Some field) (sym same_sheet) its_field; input = refl })
@@ -207,14 +212,14 @@ module _ {C : Type 0} (o : OneByOne C) (sheet : Contents) (sources : C) (start :
         let here : field_in sheet.fields field.id ≡ Some shown = subst (λ (n : ℕ). field_in sheet.fields n ≡ Some shown) number (subst (λ (s : Contents). field_in s.fields shown.id ≡ Some shown) same_sheet had) in
         let both : Some field ≡ Some shown = sym its_field ∙ here in cc
 
-    came_so : (answer : Answer) → shown_in there.world field.id ≡ Some answer → (field.answer ≡ Some answer → ⊥) → OnCopy (answer_op field.id answer)
-    came_so answer shows other =
+    came_so : (answer : Answer) → accepted_of one ≡ answer_op field.id answer ∷ [] → shown_in there.world field.id ≡ Some answer → (field.answer ≡ Some answer → ⊥) → OnCopy (answer_op field.id answer)
+    came_so answer taken shows other =
         let s = shows_in there.world field.id answer shows in record {
-          field = field;
           one = one;
           on_copy = on_copy;
           answer = answer;
           puts = refl;
+          taken = taken;
           shown = s.shown;
           number = s.number;
           input = same_input s.shown s.number s.has;
@@ -226,17 +231,18 @@ module _ {C : Type 0} (o : OneByOne C) (sheet : Contents) (sources : C) (start :
               (shown-by.2 s.shown answer s.shows s.has);
         }
 
-  whole_field : (gone : List Field) (before : List Case) (mid : At C) → FieldsChecked o.way o.chosen gone first before mid → (field : Field) (left : List Field) → sheet.fields ≡ gone ++ field ∷ left
-      → (cases : List Case) (there : At C) → FieldChecked o.way o.chosen field mid cases there → AllByRecursion OnCopy (accepted cases)
-  whole_field gone before mid earlier field left split cases there (passed none) = tt
-  whole_field gone before mid earlier field left split cases there (checked came took v u chosen evaluated judged) = go (accepted_answer came v) refl
+  whole_field : (gone : List Field) (before : List Case) (mid : At C) → FieldsChecked o.way o.chosen gone first before mid → (next : Field) (left others : List Field) → sheet.fields ≡ gone ++ (next ∷ (left ++ others))
+      → (cases : List Case) (there : At C) → FieldChecked o.way o.chosen next mid cases there → (after : List Case) → all ≡ before ++ (cases ++ after) → FieldsChecked o.way o.chosen left there after (place_at_last run) → AllByRecursion OnCopy (accepted cases)
+  whole_field gone before mid earlier next left others split cases there (passed none) after is_all later = tt
+  whole_field gone before mid earlier next left others split cases there (checked came took v u chosen evaluated judged) after is_all later = go (accepted_answer came v) refl
     where
-      go : (answer : Option Answer) → accepted_answer came v ≡ answer → AllByRecursion OnCopy (answer_ops field.id answer ++ [])
+      go : (answer : Option Answer) → accepted_answer came v ≡ answer → AllByRecursion OnCopy (answer_ops next.id answer ++ [])
       go None is = tt
       go (Some answer) is = (
-        came_so gone before mid earlier field left split (case field came (reason_shown_in u.world field.id) v (Some took)) u (checked came took v u chosen evaluated judged) answer
-            (came_from (comes_by evaluated.marks field.id) (shown_in u.world field.id) answer (sym evaluated.came_is ∙ came_there came v answer is))
-            (λ shows. not_kept field came v answer judged shows is),
+        came_so gone before mid earlier (case next came (reason_shown_in u.world next.id) v (Some took)) left others split u (checked came took v u chosen evaluated judged) after is_all later answer
+            (ap (answer_ops next.id) is)
+            (came_from (comes_by evaluated.marks next.id) (shown_in u.world next.id) answer (sym evaluated.came_is ∙ came_there came v answer is))
+            (λ shows. not_kept next came v answer judged shows is),
         tt,
       )
 
@@ -244,16 +250,23 @@ module _ {C : Type 0} (o : OneByOne C) (sheet : Contents) (sources : C) (start :
   all_joined [] more a b = b
   all_joined (op ∷ ops) more a b = (a.0, all_joined ops more a.1 b)
 
-  whole_fields : (gone : List Field) (before : List Case) (mid : At C) → FieldsChecked o.way o.chosen gone first before mid → (fields left : List Field) → sheet.fields ≡ gone ++ (fields ++ left)
-      → (cases : List Case) (t : At C) → FieldsChecked o.way o.chosen fields mid cases t → AllByRecursion OnCopy (accepted cases)
-  whole_fields gone before mid earlier [] left split cases t c = subst (λ (l : List Case). AllByRecursion OnCopy (accepted l)) (sym c.0) tt
-  whole_fields gone before mid earlier (field ∷ fields) left split cases t c =
+  whole_fields : (gone : List Field) (before : List Case) (mid : At C) → FieldsChecked o.way o.chosen gone first before mid → (fields others : List Field) → sheet.fields ≡ gone ++ (fields ++ others)
+      → (cases : List Case) → all ≡ before ++ cases → FieldsChecked o.way o.chosen fields mid cases (place_at_last run) → AllByRecursion OnCopy (accepted cases)
+  whole_fields gone before mid earlier [] others split cases is_all c = subst (λ (l : List Case). AllByRecursion OnCopy (accepted l)) (sym c.0) tt
+  whole_fields gone before mid earlier (next ∷ fields) others split cases is_all c =
+      let now : all ≡ before ++ (c.1 ++ c.2) = is_all ∙ ap (λ (l : List Case). before ++ l) c.5 in
       subst (λ (l : List Case). AllByRecursion OnCopy (accepted l)) (sym c.5)
       (subst (AllByRecursion OnCopy) (sym (flat_map-append accepted_of c.1 c.2))
-      (all_joined (accepted c.1) (accepted c.2) (whole_field gone before mid earlier field (fields ++ left) split c.1 c.0 c.3)
-      (whole_fields (gone ++ field ∷ []) (before ++ c.1) c.0 (fields-more o gone field first before mid c.1 c.0 earlier c.3) fields left
-      (split ∙ sym (append_assoc gone (field ∷ []) (fields ++ left))) c.2 t c.4)))
+      (all_joined (accepted c.1) (accepted c.2) (whole_field gone before mid earlier next fields others split c.1 c.0 c.3 c.2 now c.4)
+      (whole_fields (gone ++ next ∷ []) (before ++ c.1) c.0 (fields-more o gone next first before mid c.1 c.0 earlier c.3) fields others
+      (split ∙ sym (append_assoc gone (next ∷ []) (fields ++ others))) c.2 (now ∙ sym (append_assoc before c.1 c.2)) c.4)))
 
-  -- what is accepted of the first fields, which were evaluated there
-  pub all_whole : (gone left : List Field) → sheet.fields ≡ gone ++ left → (cases : List Case) (mid : At C) → FieldsChecked o.way o.chosen gone first cases mid → AllByRecursion OnCopy (accepted cases)
-  all_whole gone left split cases mid c = whole_fields [] [] first (refl, refl) gone left split cases mid c
+  -- what is accepted of all of them
+  all_whole : (fields others : List Field) → sheet.fields ≡ fields ++ others → FieldsChecked o.way o.chosen fields first all (place_at_last run) → AllByRecursion OnCopy (accepted all)
+  all_whole fields others split c = whole_fields [] [] first (refl, refl) fields others split all refl c
+
+-- Of each such run.
+pub ran_whole : {C : Type 0} (o : OneByOne C) (sheet : Contents) (q : Passage C) (all : List Case) (run : RanOnCopy o sheet q all) → AllByRecursion (AnsweredOnCopy o sheet q all run) (accepted all)
+ran_whole o sheet q all (all_fields c) = all_whole o sheet q c.cases (all_fields c) c.copied refl sheet.fields [] (sym (append-nil sheet.fields)) c.checked
+ran_whole o sheet q all (first_fields c) = all_whole o sheet q all (first_fields c) c.copied refl c.gone c.left c.split c.checked
+ran_whole o sheet q all (broke_off c) = all_whole o sheet q all (broke_off c) c.copied refl c.gone c.left c.split c.checked

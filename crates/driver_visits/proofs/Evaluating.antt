@@ -1,6 +1,6 @@
 -- Where fields of a copy are evaluated, nothing but evaluations is asked; so each field keeps its input.
-use Rattle.std.proofs.Common.{◌≡◌, ◌⊎◌, ◌∙◌, ⊎_elim, inl, inr, ℕ, List, [], ◌∷◌, ◌++◌, Bool, true, false, Option, Some, None, Ok, Err, zero, suc, refl, sym, ap, subst, append-nil, append_assoc}
-use Rattle.std.specs.Prelude.{Result, map}
+use Rattle.std.proofs.Common.{◌≡◌, ◌⊎◌, ◌∙◌, ⊎_elim, inl, inr, ℕ, List, [], ◌∷◌, ◌++◌, Bool, Option, Some, None, Ok, Err, zero, suc, refl, sym, ap, subst, append-nil, append_assoc}
+use Rattle.std.specs.Prelude.{Result, length, map}
 use Rattle.std.specs.List.{AllByRecursion}
 use Rattle.worksheet.specs.declared.op.Op.{Op}
 use Rattle.worksheet.specs.declared.op.Op.TheVariants as op
@@ -12,17 +12,16 @@ use Rattle.block_tree.specs.declared.reason.Reason.{Reason}
 use Rattle.plugin_core.specs.declared.step.Ended.{Ended}
 use Rattle.host_events.specs.declared.command.Command.{Command}
 use Rattle.host_events.specs.declared.command.Command.TheVariants as command
-use Rattle.host_events.specs.declared.event.ChildEvent.{ChildEvent}
 use Rattle.host_events.specs.declared.event.ChildEvent.TheVariants as child
 use Rattle.host_events.specs.declared.event.Event.{Event}
 use Rattle.host_events.specs.declared.event.Event.TheVariants as event
 use Rattle.host_events.specs.declared.outcome.Effect.{Effect}
 use Rattle.host_events.specs.declared.outcome.Effect.TheVariants as effect
 use Rattle.host_events.specs.declared.outcome.Outcome.{Outcome}
-use Rattle.session_engine.specs.World.{Going, World, kept_at_end, life_of, sheet_in, with_number, with_op_if}
-use Rattle.session_engine.specs.Does.{Gives, Runs, op_by}
+use Rattle.session_engine.specs.World.{Going, World, life_of, with_number, with_op_if}
+use Rattle.session_engine.specs.Does.{Runs}
 use Rattle.session_engine.specs.Refused.{command_refusals}
-use Rattle.session_engine.specs.inside.Parts.{goes_on}
+use Rattle.session_engine.specs.inside.Parts.{goes_on, without_life}
 use Rattle.session_engine.specs.inside.Words.{with_piece}
 use Rattle.session_engine.proofs.Losing.{if_ended, if_pieced}
 use Rattle.host_laws.specs.inside.Given.{Commanded, Ended_by, GivesByParts, Pieced, step_at}
@@ -39,17 +38,17 @@ use Rattle.offline_programs.specs.declared.fault.RunFault.{RunFault}
 use Rattle.offline_programs.specs.declared.fault.RunFault.TheVariants as run_fault
 use Rattle.tellings.specs.declared.note.Note.{Note}
 use Rattle.driver.specs.declared.action.Action.{Action}
-use Rattle.driver.specs.declared.action.Action.TheVariants as action
 use Rattle.driver.specs.Hearing.{HeardAfter, HeardReady, no_other, one_more}
 use Rattle.driver.specs.Items.{Item, RunStep, after_fault, entries_of, items_by, notes, stalls, taking_due}
 use Rattle.driver.specs.Items as item
 use Rattle.driver.specs.Laws.{trace}
-use Rattle.driver.specs.Place.{RunPlace, Rules, SourceRules}
+use Rattle.driver.specs.Place.{RunPlace, Rules, SinkRules, SourceRules, rules}
 use Rattle.driver.specs.Steps.{Goes, Run}
 use Rattle.driver.specs.Steps as step
 use Rattle.driver.proofs.Courses.{events_append}
 use Rattle.line_agenda.specs.Alone.{AsksLines}
 use Rattle.evaluation.specs.Programs.{Finds}
+use Rattle.field_agenda.specs.FieldsRules.{fields_rules}
 use Rattle.field_agenda.specs.Joins.{FieldsJoin, goes_on as waits_on, none_join, some_join}
 use Rattle.field_agenda.specs.Looks.{LooksFor, looked, unlooked}
 use Rattle.field_agenda.specs.Says.{AsksFrom, ComesToItsEnd, FieldsGoOn, GoesUnheard, SaysAt, asked, asked_with, asks, asks_field, ends, ends_with, goes_unheard, hears, interrupts, interrupts_of, stalls as stalls_now, too_many_fields, unasked, uncounted, watches}
@@ -57,10 +56,6 @@ use Rattle.field_agenda.specs.Standing.{seen_due}
 use Rattle.field_agenda.specs.declared.by_fields.ByFields.{ByFields}
 use Rattle.field_agenda.specs.declared.stage.Stage.{Stage}
 use Rattle.field_agenda.specs.declared.stage.Stage.TheVariants as stage
-use Rattle.sheet_check.specs.Driven.{copy_rules}
-use Rattle.sheet_check.specs.Evaluated.{Way}
-use Rattle.sheet_check.specs.declared.marks.AllThere.{AllThere}
-use Rattle.sheet_check.specs.declared.marks.Marks.{Marks}
 
 -- Evaluations, and what comes from lives.
 
@@ -101,7 +96,7 @@ stays w v is = inl (ap (λ (x : World). x.ops) is)
 by_end : (w : World) (x : Option Going) (why : Reason) (killed : Bool) (o : Outcome) (v : World) → Ended_by w x why killed o v → KeptInputs w v
 by_end w None why killed o v given = stays w v given.1
 by_end w (Some l) why killed o v given =
-    subst (KeptInputs w) (sym given.1) (if_ended (λ (p : Option Op). KeptInputs w (with_op_if p _)) w why l (inl refl) (λ id is. one_op w _ (op.Lost id why) refl (λ n. tt)))
+    subst (KeptInputs w) (sym given.1) (if_ended (λ (p : Option Op). KeptInputs w (with_op_if p (without_life l.name w))) w why l (inl refl) (λ id is. one_op w (without_life l.name w) (op.Lost id why) refl (λ n. tt)))
 
 by_piece : (w : World) (x : Option Going) (bytes : List ℕ) (o : Outcome) (v : World) → Pieced w x bytes o v → KeptInputs w v
 by_piece w None bytes o v given = stays w v given.1
@@ -253,12 +248,12 @@ module _ {P : Type 0} where
   of_saying : (how : Stage) (finds : Finds) (a : ByFields P) (w : World) (now : ℕ) (r : Result Action RunFault) (b : ByFields P) → SaysAt how finds a w now r b → OfAction r
   of_saying stage.New finds a w now r b said = of_look finds a w r b said
   of_saying stage.Going finds a w now r b said = of_going a w now r b said
-  of_saying (stage.Counted end) finds a w now r b said = by_action r _ said.0 tt
+  of_saying (stage.Counted done_with) finds a w now r b said = by_action r _ said.0 tt
   of_saying (stage.NoField id) finds a w now r b said = by_action r _ said.0 tt
   of_saying (stage.NoProgram name) finds a w now r b said = by_action r _ said.0 tt
 
   of_join : (a : ByFields P) (w : World) (first : Option ℕ) (more : List Event) (b : ByFields P) → FieldsJoin a w first more b → AreOfEvals more
-  of_join a w first more b (none_join no is same) = subst AreOfEvals (sym is) tt
+  of_join a w first more b (none_join nothing is same) = subst AreOfEvals (sym is) tt
   of_join a w first more b (some_join held k id life none going from) = subst AreOfEvals (sym from.asked) (all_asked (asked_with (waits_on a held) w k id))
 
 -- What comes from lives.
@@ -268,7 +263,7 @@ all_stalled [] = tt
 all_stalled (seat ∷ seats) = (tt, all_stalled seats)
 
 one_heard : {C : Type 0} (R : Relation C) (seat : Seat) (c : C) (e : Event) (d : C) → HearsOne R seat c e d → IsOfEvals e
-one_heard R seat c e d (said, hears, is) = subst IsOfEvals (sym is) tt
+one_heard R seat c e d (said, heard, is) = subst IsOfEvals (sym is) tt
 
 heard_after : {C : Type 0} (R : SourceRules C) (c : C) (events : List Event) (d : C) → HeardAfter R c events d → AreOfEvals events
 heard_after R c events d no_other = tt
@@ -348,28 +343,31 @@ notes_ask (Some n) = (tt, tt)
 abbrev OfStep : RunStep → List Item → Type 0
 OfStep s next = ((why : RunFault) × (next ≡ after_fault why)) ⊎ (AreOfEvals (events_of (entries_of s)) × AllAsk next)
 
-module _ {C : Type 0} (o : Way C) where
+module _ {P C K : Type 0} (finds : P → Finds) (sources : SourceRules C) (sink : SinkRules K) where
   abbrev Spot : Type 0
-  Spot = RunPlace (ByFields AllThere) C Marks
+  Spot = RunPlace (ByFields P) C K
 
-  of_step : (p q : Spot) (todo next : List Item) (s : RunStep) → Goes (copy_rules o) p todo s next q → AllAsk todo → OfStep s next
+  abbrev R : Rules (ByFields P) C K
+  R = rules (fields_rules finds) sources sink
+
+  of_step : (p q : Spot) (todo next : List Item) (s : RunStep) → Goes R p todo s next q → AllAsk todo → OfStep s next
   of_step p q todo next s (step.asks now t a clock said) all = inr (tt, of_saying p.agenda.stage _ p.agenda p.world now (Ok t) a said)
   of_step p q todo next s (step.watches x w c a rest wakes woken) all = inr (tt, all.1)
-  of_step p q todo next s (step.hears seat most events c rest heard) all = inr (tt, (all_heard _ seat most p.sources events c heard, all.1))
+  of_step p q todo next s (step.hears seat most events c rest heard) all = inr (tt, (all_heard sources seat most p.sources events c heard, all.1))
   of_step p q todo next s (step.takes from events outcomes followed w c d rest t) all =
-      inr (took_all p.world events outcomes t.middle followed t.kept.runs all.0 (carried _ outcomes _ _ followed _ t.carried), (tt, (tt, (tt, all.1))))
+      inr (took_all p.world events outcomes t.middle followed t.kept.runs all.0 (carried sources.after outcomes (length outcomes) (at t.middle p.sources t.disk) followed (at w c d) t.carried), (tt, (tt, (tt, all.1))))
   of_step p q todo next s (step.joins events outcomes first more later followed a w c d rest j t) all =
       inr (
-        took_all p.world (events ++ more) (outcomes ++ later) t.middle followed t.kept.runs (all_joined events more all.0 (of_join p.agenda j.world first more a j.answered)) (carried _ (outcomes ++ later) _ _ followed _ t.carried),
+        took_all p.world (events ++ more) (outcomes ++ later) t.middle followed t.kept.runs (all_joined events more all.0 (of_join p.agenda j.world first more a j.answered)) (carried sources.after (outcomes ++ later) (length (outcomes ++ later)) (at t.middle p.sources t.disk) followed (at w c d) t.carried),
         (tt, joined_ask first later _ (tt, (tt, all.1))),
       )
   of_step p q todo next s (step.takes_whole first events outcomes w d rest t) all = absurd all.0
   of_step p q todo next s (step.refuses_whole first events before last rest refused) all = absurd all.0
-  of_step p q todo next s (step.takes_edits up_to events first outcomes w d rest ends t) all = absurd all.0
+  of_step p q todo next s (step.takes_edits up_to events first outcomes w d rest upto t) all = absurd all.0
   of_step p q todo next s (step.takes_alone e x w d rest g kept) all = inr ((all.0, tt), (tt, all.1))
   of_step p q todo next s (step.carries x answer c rest went) all =
       inr (tt, (tt, (tt, (tt, items_joined (taking_due (due_of x.effect answer)) rest (due_asks (due_of x.effect answer) (all_due x.effect answer)) all.1))))
-  of_step p q todo next s (step.receives seat e c rest heard) all = inr (tt, (one_heard _ seat p.sources e c heard, all.1))
+  of_step p q todo next s (step.receives seat e c rest heard) all = inr (tt, (one_heard sources.after seat p.sources e c heard, all.1))
   of_step p q todo next s (step.rewrites line x w d rest g kept) all = absurd all.0
   of_step p q todo next s (step.stalls_all rest) all = inr (tt, (all_stalled _, all.1))
   of_step p q todo next s (step.interrupts name result c rest called) all = inr (tt, (tt, all.1))
@@ -378,13 +376,13 @@ module _ {C : Type 0} (o : Way C) where
   of_step p q todo next s (step.breaks i entries why x rest fails) all = inl (why, refl)
   of_step p q todo next s (step.prints_fault why whole k tries) all = inr (tt, (tt, tt))
 
-  of_run : (p q : Spot) (todo : List Item) (steps : List RunStep) → Run (copy_rules o) p todo steps [] q → AllAsk todo → AreOfEvals (events_of (trace steps))
+  of_run : (p q : Spot) (todo : List Item) (steps : List RunStep) → Run R p todo steps [] q → AllAsk todo → AreOfEvals (events_of (trace steps))
   of_run p q todo [] r all = tt
   of_run p q todo (s ∷ steps) (next, mid, goes, more) all = ⊎_elim
-      (λ broke. absurd (not_broken (copy_rules o) mid q broke.0 steps (subst (λ (t : List Item). Run (copy_rules o) mid t steps [] q) broke.1 more)))
+      (λ broke. absurd (not_broken R mid q broke.0 steps (subst (λ (t : List Item). Run R mid t steps [] q) broke.1 more)))
       (λ on. entries_joined (entries_of s) (trace steps) on.0 (of_run mid q next steps more on.1))
       (of_step p mid todo next s goes all)
 
   -- a run of fields, to its end
-  pub of_fields : (p q : Spot) (steps : List RunStep) → Run (copy_rules o) p (item.ask ∷ []) steps [] q → AreOfEvals (events_of (trace steps))
+  pub of_fields : (p q : Spot) (steps : List RunStep) → Run R p (item.ask ∷ []) steps [] q → AreOfEvals (events_of (trace steps))
   of_fields p q steps r = of_run p q (item.ask ∷ []) steps r (tt, tt)

@@ -1,21 +1,49 @@
 -- What `check --accept` puts into a field is a whole block, which answered the field's line on a copy of the worksheet. (docs/trust/THEOREM.md; premise A7 in
 -- the README of crate `theorem`.)
-use Rattle.std.specs.Prelude.{◌≡◌, ℕ, List, [], ◌∷◌, ◌++◌, Some}
+use Rattle.std.specs.Prelude.{◌≡◌, List, [], ◌∷◌, ◌++◌, Some}
+use Rattle.std.specs.List.{AllByRecursion}
 use Rattle.worksheet.specs.declared.op.Op.{Op}
 use Rattle.worksheet.specs.declared.field.Answer.{Answer}
 use Rattle.worksheet.specs.declared.field.Field.{Field}
 use Rattle.worksheet.specs.Contents.{Contents}
-use Rattle.disk_model.specs.Disk.{DiskView}
 use Rattle.session_engine.specs.World.{World, sheet_in}
 use Rattle.host_laws.specs.Turns.{AnsweredIn, Has, HostStep, StepsOf}
 use Rattle.child_edge.specs.Faithful.{At, Entry, at}
 use Rattle.child_edge.specs.Moments.{events_of, outcomes_of}
 use Rattle.driver.specs.Laws.{trace}
+use Rattle.check_report.specs.declared.verdict.VerdictCounts.{VerdictCounts}
 use Rattle.check_report.specs.Reports.{Case}
-use Rattle.sheet_check.specs.Check.{IsCopy}
+use Rattle.offline_programs.specs.declared.fault.RunFault.{RunFault}
+use Rattle.sheet_check.specs.Accept.{accepted, accepted_of}
+use Rattle.sheet_check.specs.Check.{Passage, SheetBroke, SheetChecked, SheetLed}
 use Rattle.sheet_check.specs.Evaluated.{OneByOne}
 use Rattle.sheet_check.specs.Fields.{FieldChecked, FieldsChecked, checked, passed}
 use Rattle.sheet_check.specs.Kept.{answer_op}
+
+-- Fields of this worksheet were evaluated on a copy of it, which are these cases: all of them; or the first, and the next one led on so far, or broke off. Then
+-- each life that goes on was stopped, which left the sources as they were given back.
+pub data RanOnCopy {C : Type 0} (o : OneByOne C) (sheet : Contents) (q : Passage C) : List Case → Type 0 where
+  all_fields : {counts : VerdictCounts} → (c : SheetChecked o sheet q counts) → RanOnCopy o sheet q c.cases
+  first_fields : {cases : List Case} → SheetLed o sheet q.sources q.left cases → RanOnCopy o sheet q cases
+  broke_off : {cases : List Case} {why : RunFault} → SheetBroke o sheet q.sources q.left cases why → RanOnCopy o sheet q cases
+
+-- the world of the host that was opened on the copy
+abbrev pub world_at_first : {C : Type 0} {o : OneByOne C} {sheet : Contents} {q : Passage C} {cases : List Case} → RanOnCopy o sheet q cases → World
+world_at_first (all_fields c) = c.start
+world_at_first (first_fields c) = c.start
+world_at_first (broke_off c) = c.start
+
+-- where it was, its disk and the sources, when it was opened
+abbrev pub place_at_first : {C : Type 0} {o : OneByOne C} {sheet : Contents} {q : Passage C} {cases : List Case} → RanOnCopy o sheet q cases → At C
+place_at_first {q = q} (all_fields c) = at c.start q.sources c.copy
+place_at_first {q = q} (first_fields c) = at c.start q.sources c.copy
+place_at_first {q = q} (broke_off c) = at c.start q.sources c.copy
+
+-- and when the last of these cases had been evaluated
+abbrev pub place_at_last : {C : Type 0} {o : OneByOne C} {sheet : Contents} {q : Passage C} {cases : List Case} → RanOnCopy o sheet q cases → At C
+place_at_last (all_fields c) = c.leads
+place_at_last (first_fields c) = c.mid
+place_at_last (broke_off c) = c.mid
 
 -- the entries of the trace of a field's evaluation, where it was evaluated
 abbrev pub field_trace : {C : Type 0} (o : OneByOne C) (field : Field) (s : At C) (cases : List Case) (t : At C) → FieldChecked o.way o.chosen field s cases t → List Entry
@@ -27,35 +55,43 @@ abbrev pub fields_trace : {C : Type 0} (o : OneByOne C) (fields : List Field) (s
 fields_trace o [] s cases t c = []
 fields_trace o (field ∷ fields) s cases t c = field_trace o field s c.1 c.0 c.3 ++ fields_trace o fields c.0 c.2 t c.4
 
--- A host was opened on a copy of this worksheet. With these sources fields of it were evaluated there in their order, up to this one. These were the host's
--- steps: those of the events of all these evaluations.
-pub record EvaluatedOnCopy {C : Type 0} (o : OneByOne C) (sheet : Contents) (sources : C) (field : Field) (one : Case) : Type 0 where
-  pub start : World
-  pub copy : DiskView
-  pub copied : IsCopy sheet start copy
+-- In such a run this field was evaluated after those before it in the worksheet, which is this case, and before those after it. These were the host's steps up to
+-- then: those of the events of these evaluations.
+pub record EvaluatedOnCopy {C : Type 0} (o : OneByOne C) (sheet : Contents) (q : Passage C) (all : List Case) (run : RanOnCopy o sheet q all) (one : Case) : Type 0 where
   pub gone : List Field
   pub left : List Field
-  pub split : sheet.fields ≡ gone ++ field ∷ left
+  pub others : List Field
+  pub split : sheet.fields ≡ gone ++ (one.field ∷ (left ++ others))
   pub before : List Case
+  pub after : List Case
+  pub cases : all ≡ before ++ one ∷ after
   pub mid : At C
-  pub earlier : FieldsChecked o.way o.chosen gone (at start sources copy) before mid
+  pub earlier : FieldsChecked o.way o.chosen gone (place_at_first run) before mid
   pub there : At C
-  pub evaluated : FieldChecked o.way o.chosen field mid (one ∷ []) there
+  pub evaluated : FieldChecked o.way o.chosen one.field mid (one ∷ []) there
+  pub later : FieldsChecked o.way o.chosen left there after (place_at_last run)
   pub steps : List HostStep
-  pub led : StepsOf start (events_of (fields_trace o gone (at start sources copy) before mid earlier ++ field_trace o field mid (one ∷ []) there evaluated))
-      (outcomes_of (fields_trace o gone (at start sources copy) before mid earlier ++ field_trace o field mid (one ∷ []) there evaluated)) steps there.world
+  pub led : StepsOf (world_at_first run) (events_of (fields_trace o gone (place_at_first run) before mid earlier ++ field_trace o one.field mid (one ∷ []) there evaluated))
+      (outcomes_of (fields_trace o gone (place_at_first run) before mid earlier ++ field_trace o one.field mid (one ∷ []) there evaluated)) steps there.world
 
--- This op puts in an answer that came so: as the field of the copy showed it then, since one of the steps had closed it. That field has the input of the
--- worksheet's. So the answer is the output of a whole block that answered its line.
-pub record AnsweredOnCopy {C : Type 0} (o : OneByOne C) (sheet : Contents) (sources : C) (put : Op) : Type 0 where
-  pub field : Field
+-- This op puts in an answer that came so, and that is what is accepted of the case: as the field of the copy showed it then, since one of the steps had closed it.
+-- That field has the input of the worksheet's. So the answer is the output of a whole block that answered its line.
+pub record AnsweredOnCopy {C : Type 0} (o : OneByOne C) (sheet : Contents) (q : Passage C) (all : List Case) (run : RanOnCopy o sheet q all) (put : Op) : Type 0 where
   pub one : Case
-  pub on_copy : EvaluatedOnCopy o sheet sources field one
+  pub on_copy : EvaluatedOnCopy o sheet q all run one
   pub answer : Answer
-  pub puts : put ≡ answer_op field.id answer
+  pub puts : put ≡ answer_op one.field.id answer
+  pub taken : accepted_of one ≡ put ∷ []
   pub shown : Field
-  pub number : shown.id ≡ field.id
-  pub input : shown.input ≡ field.input
+  pub number : shown.id ≡ one.field.id
+  pub input : shown.input ≡ one.field.input
   pub has : Has (sheet_in on_copy.there.world) shown
   pub shows : shown.answer ≡ Some answer
   pub answered : AnsweredIn on_copy.steps shown
+
+-- These ops are the first of what is accepted of the cases of one such run, and each of them is so.
+pub record PutFromCopy {C : Type 0} (o : OneByOne C) (sheet : Contents) (q : Passage C) (all : List Case) (put : List Op) : Type 0 where
+  pub run : RanOnCopy o sheet q all
+  pub rest : List Op
+  pub puts : accepted all ≡ put ++ rest
+  pub whole : AllByRecursion (AnsweredOnCopy o sheet q all run) put

@@ -1,4 +1,4 @@
--- What a run prints of events is of events that it has taken. (docs/trust/THEOREM.md, "Of the call that programs make".)
+-- What a run prints of events is of events that it has taken. (docs/trust/PROGRAMS.md, "A6".)
 use Rattle.std.specs.Prelude.{◌≡◌, ◌⊎◌, List, [], ◌∷◌, ◌++◌}
 use Rattle.host_events.specs.declared.event.Event.{Event}
 use Rattle.host_events.specs.declared.outcome.Outcome.{Outcome}
@@ -20,7 +20,7 @@ pub record IsPart {A : Type 0} (part all : List A) : Type 0 where
 abbrev pub AreOf : List RunStep → List Outcome → Type 0
 AreOf steps outcomes = IsPart outcomes (outcomes_of (trace steps)) ⊎ ((events : List Event) × (one : Outcome) × (outcomes ≡ one ∷ []) × IsPart (refused_whole events one ∷ []) steps)
 
--- A report says what these steps came to: such outcomes, or what followed effects. What else is shown is of no event.
+-- A report has such outcomes, or replies to some of these events, in their order. Of what else is shown, as notes and a worksheet, this says nothing.
 abbrev pub IsReportOf : List RunStep → Report → Type 0
 IsReportOf steps (report.lines first outcomes) = AreOf steps outcomes
 IsReportOf steps (report.lives outcomes) = AreOf steps outcomes

@@ -19,6 +19,6 @@ returns g c = λ model.
     let x = acceptance g.W.Stamped.held (g.D.Disk.view c.args.disk) (g.D.Disk.view came.disk) in
     let q = passage c.args.sources came.sources before written in
     accepts_then_opens (accepting_by g.C.Children.after g.C.Sources.clock g.C.Sources.wakes asked) q x nothing (disk_of_opening g.D.Disk.view c.opened_after.result) came.answer c.opened_after.result c.hosts_in_turn.ensures c.one_sheet.ensures model (g.met.D.Disk.content_stays came.disk)
-    c.opened_after.ensures.acts c.opened_after.ensures.same c.opened_after.ensures.looks c.check_accepting-disk.ensures.accepted
+    c.opened_after.ensures.acts c.opened_after.ensures.same c.opened_after.ensures.looks c.check_accepting-disk.ensures.accepted c.check_accepting-disk.ensures.failed c.check_accepting-disk.ensures.memory
     (acceptance_filed (way g.C.Children.after g.C.Sources.clock g.C.Sources.wakes asked.limit) asked.chosen x q nothing
     (λ none. subst (λ (x : Option (List ℕ)). Appends before x []) (sym (ap g.W.Write.contents none.0)) (Appends-nil before)) came.answer model c.check_accepting-disk.ensures.accepted)
