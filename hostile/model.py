@@ -1,7 +1,7 @@
 """What a script over a worksheet may tell and leave, by docs/use/SCRIPT.md: a model apart from the program's own text.
 
 A `Model` follows what a run of a script wrote, line by line, and then knows which worksheets may be on the disk: that
-behind all that was told, and those to which the line that was being done may have led.
+after all that was said, and those to which the line that was being done may have led.
 """
 
 from __future__ import annotations
@@ -18,7 +18,7 @@ Item = tuple[int, str, bool]
 
 class Kind:
     """An interpreter: its text for the shell, how many lines it answers before it ends in the middle of a block (None: all), the
-    prompt and the printed output of its answer to a line, behind so many, and what is told of a completion."""
+    prompt and the printed output of its answer to a line, after so many, and what is said of a completion."""
 
     def __init__(self, shell: str, most: int | None = None, answer: Callable[[int, str], Answer] = lambda count, given: ("> ", given), completed: str = "bad") -> None:
         self.shell, self.most, self.answer, self.completed = shell, most, answer, completed
@@ -75,7 +75,7 @@ REFUSALS = {
 
 
 class Difference(Exception):
-    """The program told or left what the model doesn't allow."""
+    """The program said or left what the model doesn't allow."""
 
 
 def refused(number: int) -> str:
@@ -275,7 +275,7 @@ class Followed:
 
 
 def waited(model: Model, told: list[str], number: int) -> bool:
-    """Whether all that a `wait` tells was told, which is taken away then."""
+    """Whether all that a `wait` says was said, which is taken away then."""
     wanted = [model.told_in_wait(*item) for item in model.sessions.items() if item[1].waiting]
     count = sum(map(len, wanted))
     merge(wanted, told[:count], number)
@@ -320,7 +320,7 @@ def follow(script: Sequence[str], output: Iterable[str], kinds: dict[str, str], 
         if memory and verb in ("eval", "complete"):
             refusals += start_refused(model, words, told)
     if told:
-        raise Difference(f"told behind the end: {told}")
+        raise Difference(f"said after the end: {told}")
     return Followed({model.printed()}, True, refusals)
 
 
@@ -328,9 +328,9 @@ def is_skipped(line: str) -> bool:
     return line == "" or line.startswith("#")
 
 
-# What the worksheet may be where a run told nothing of the last of these lines, after which the model stands: without it, or with it.
+# What the worksheet may be where a run said nothing of the last of these lines, after which the model stands: without it, or with it.
 # Commands one after another that only change the worksheet are a group, of which all is there or nothing, and all where a reply of it
-# was told, unless memory was refused for the line after it. (A script has fewer than a group may have.)
+# was said, unless memory was refused for the line after it. (A script has fewer than a group may have.)
 def sheets_in_group(model: Model, before: str, done: Sequence[str], later: Sequence[str], memory: bool) -> set[str]:
     commands = [line for line in done if not is_skipped(line)]
     if words_of(commands[-1])[0] not in EDITS:
