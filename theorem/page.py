@@ -86,6 +86,7 @@ EXPANDED: set[Key] = {
     ("driver_visits.Copied", "EvaluatedOnCopy"),
     ("driver_visits.Copied", "AnsweredOnCopy"),
     ("driver_visits.Copied", "PutFromCopy"),
+    ("driver_visits.Copied", "AcceptedAreWhole"),
     ("driver_visits.Filed", "LeavesAnswers"),
     ("driver_visits.Filed", "OpensFiled"),
     ("driver_visits.Filed", "AcceptsThenOpens"),

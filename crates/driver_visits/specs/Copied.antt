@@ -1,6 +1,6 @@
 -- What `check --accept` puts into a field is a whole block, which answered the field's line on a copy of the worksheet. (docs/trust/THEOREM.md; premise A7 in
 -- the README of crate `theorem`.)
-use Rattle.std.specs.Prelude.{◌≡◌, List, [], ◌∷◌, ◌++◌, Some}
+use Rattle.std.specs.Prelude.{◌≡◌, ℕ, List, [], ◌∷◌, ◌++◌, Option, Some}
 use Rattle.std.specs.List.{AllByRecursion}
 use Rattle.worksheet.specs.declared.op.Op.{Op}
 use Rattle.worksheet.specs.declared.field.Answer.{Answer}
@@ -11,12 +11,13 @@ use Rattle.host_laws.specs.Turns.{AnsweredIn, Has, HostStep, StepsOf}
 use Rattle.child_edge.specs.Faithful.{At, Entry, at}
 use Rattle.child_edge.specs.Moments.{events_of, outcomes_of}
 use Rattle.driver.specs.Laws.{trace}
+use Rattle.check_report.specs.declared.chosen.Chosen.{Chosen}
 use Rattle.check_report.specs.declared.verdict.VerdictCounts.{VerdictCounts}
 use Rattle.check_report.specs.Reports.{Case}
 use Rattle.offline_programs.specs.declared.fault.RunFault.{RunFault}
-use Rattle.sheet_check.specs.Accept.{accepted, accepted_of}
+use Rattle.sheet_check.specs.Accept.{accepted, accepted_of, to_accept}
 use Rattle.sheet_check.specs.Check.{Passage, SheetBroke, SheetChecked, SheetLed}
-use Rattle.sheet_check.specs.Evaluated.{OneByOne}
+use Rattle.sheet_check.specs.Evaluated.{OneByOne, Way}
 use Rattle.sheet_check.specs.Fields.{FieldChecked, FieldsChecked, checked, passed}
 use Rattle.sheet_check.specs.Kept.{answer_op}
 
@@ -95,3 +96,8 @@ pub record PutFromCopy {C : Type 0} (o : OneByOne C) (sheet : Contents) (q : Pas
   pub rest : List Op
   pub puts : accepted all ≡ put ++ rest
   pub whole : AllByRecursion (AnsweredOnCopy o sheet q all run) put
+
+-- Whatever is accepted of the cases of a run on a copy is so. No disk but the copy's, which is in memory, is spoken of: so this holds over the system's files, too.
+abbrev pub AcceptedAreWhole : {C : Type 0} → (Option ℕ → Way C) → Type 0
+AcceptedAreWhole {C = C} within = (limit : Option ℕ) (chosen : Chosen) (sheet : Contents) (q : Passage C) (all : List Case) (run : RanOnCopy (to_accept (within limit) chosen) sheet q all)
+    → AllByRecursion (AnsweredOnCopy (to_accept (within limit) chosen) sheet q all run) (accepted all)

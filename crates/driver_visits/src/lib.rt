@@ -11,6 +11,7 @@ ghost use Rattle.script_agenda.specs.Run.{running_rules};
 ghost use Rattle.field_agenda.specs.FieldLines.{by_field_lines};
 ghost use Rattle.field_agenda.specs.FieldsRules.{fields_rules};
 ghost use Rattle.driver_visits.specs.Acceptances.{AcceptancesAreFiled};
+ghost use Rattle.driver_visits.specs.Copied.{AcceptedAreWhole};
 ghost use Rattle.driver_visits.specs.Visits.{DrivenIsVisit, PrintedIsDurable};
 ghost use Rattle.sheet_check.specs.Evaluated.{way};
 
@@ -59,6 +60,11 @@ pub fn fields_are_visits<P: Programs, S: Sources, T: Tells, W: Stamped>()
         (source_rules S.after S.wakes S.clock) (noting_rules (by_field_lines T.voice) W.held)) }
     ensures durable { PrintedIsDurable (rules (fields_rules P.finds)
         (source_rules S.after S.wakes S.clock) (noting_rules (by_field_lines T.voice) W.held)) }
+{}
+
+/// What `check --accept` accepts were whole blocks on its copy, which answered the lines of their fields, over whatever disk.
+pub fn accepted_are_whole<S: Sources>()
+    ensures { AcceptedAreWhole (way S.after S.clock S.wakes) }
 {}
 
 /// What `check --accept` leaves is an acceptance, in the words of its contract, to its end or to a fault.

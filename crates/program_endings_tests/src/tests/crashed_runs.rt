@@ -90,7 +90,7 @@ fn interpreter(alloc: Global) -> Option<Scripted> {
 }
 
 /// What a run that is crashed at a moment comes to.
-enum Left {
+enum Crashed {
     /// The run has no such moment.
     NotReached,
     /// The worksheet that opens, as it is printed.
@@ -98,7 +98,7 @@ enum Left {
 }
 
 /// What opens after the run and a crash; None where nothing does, or the run has a fault.
-fn left(alloc: Global, choice: &Choice) -> Option<Left> {
+fn left(alloc: Global, choice: &Choice) -> Option<Crashed> {
     let sources = ScriptedSources::new(interpreter(alloc)?, Vec::new(alloc));
     let sink = Voiced {
         tells: InWords,
@@ -117,11 +117,11 @@ fn left(alloc: Global, choice: &Choice) -> Option<Left> {
         return None;
     }
     match opened {
-        AfterCrash::NotReached => Some(Left::NotReached),
+        AfterCrash::NotReached => Some(Crashed::NotReached),
         AfterCrash::Opened(Ok(host)) => {
             let mut text = Vec::new(alloc);
             match sheet_text(host.sheet(), &mut text) {
-                Ok(()) => Some(Left::Worksheet(text)),
+                Ok(()) => Some(Crashed::Worksheet(text)),
                 Err(_) => None,
             }
         }
@@ -140,9 +140,9 @@ fn moments(alloc: Global, fill: Fill, grown: bool) -> Option<u64> {
             grown,
         };
         match left(alloc, &choice)? {
-            Left::NotReached if shown == LAST => return Some(moment),
-            Left::NotReached => return None,
-            Left::Worksheet(text) => {
+            Crashed::NotReached if shown == LAST => return Some(moment),
+            Crashed::NotReached => return None,
+            Crashed::Worksheet(text) => {
                 let found = TEXTS.iter().position(|one| *one == text.as_slice())?;
                 if found < shown {
                     return None;
