@@ -91,10 +91,10 @@ class Verdicts(Case):
         self.assertEqual(self.verdicts(self.path), ["ended", "ok"])
         self.assertIn("no case of the session c has an answer: do its words start an interpreter here? ./nothing here\n", self.outcome.output)
         with open(self.path, "w", encoding="utf-8") as file:
-            file.write(text.replace("[./nothing, here]", "[sh]").replace("---\n", "---\ntimeout: 0.5\n", 1))
+            file.write(text.replace("[./nothing, here]", "[cat]").replace("---\n", "---\ntimeout: 0.5\n", 1))
         self.assertEqual(self.verdicts(self.path), ["over", "ok"])
-        self.assertIn("no case of the session c has an answer: sh by itself has no blocks for its answers: the words tmhost-sh start it with an adapter\n", self.outcome.output)
-        self.assertTrue(self.outcome.output.startswith(f"{self.path}: the session c: sh by itself has no blocks for its answers: the words tmhost-sh start it with an adapter\n"))
+        self.assertIn("no case of the session c has an answer: do its words start an interpreter here? cat\n", self.outcome.output)
+        self.assertTrue(self.outcome.output.startswith(f"over: {self.path}:9 say x (its interpreter didn't start)\n"), self.outcome.output)
         self.write(case("say x", "x"), more="folder: none\n")
         self.assertIn("`folder` is " + self.place("none") + ", which is no folder", self.run_suite(self.path).errors)
 

@@ -6,7 +6,11 @@ import re
 import shlex
 from typing import Callable, FrozenSet, List, Optional, Sequence
 
+from tmhost.starting import never_answers
+from tmhost_fences.troubles import Trouble
+
 from . import kept as worksheets
+from .agenda import is_fixed
 from .cases import Case, Suite
 
 MOST = 20  # cases that are listed
@@ -31,6 +35,15 @@ def chooser(given: argparse.Namespace, path: str) -> Callable[[int, Case], bool]
         return not case.is_own and is_named(given, case) and (tags is None or bool(tags & case.marks.tags)) and (failed is None or case.digest in failed)
 
     return is_chosen
+
+
+def refuse_bare_sessions(suite: Suite, is_chosen: Callable[[int, Case], bool]) -> None:
+    """A session that certainly never answers isn't waited for, where it has a case that is to be evaluated."""
+    meant = {case.session for at, case in enumerate(suite.cases) if case.marks.skip is None and (is_fixed(case) or is_chosen(at, case))}
+    bare = [(name, never_answers(words)) for name, words in suite.sessions.items() if name in meant]
+    reasons = [f"the session {name}: {why}" for name, why in bare if why]
+    if reasons:
+        raise Trouble(*reasons)
 
 
 def why_none(given: argparse.Namespace, suites: Sequence[Suite]) -> str:

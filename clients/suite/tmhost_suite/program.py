@@ -4,6 +4,7 @@ import contextlib
 import os
 import random
 import re
+import stat
 import sys
 import threading
 import time
@@ -20,11 +21,11 @@ from . import kept as worksheets
 from . import reports
 from .accepting import accept
 from .cases import Suite
-from .choosing import chooser, why_none
+from .choosing import chooser, refuse_bare_sessions, why_none
 from .marks import seconds
 from .reports import FORMATS, Reported, SuiteTrouble, reported_of
 from .running import Plan, run
-from .telling import Teller, cut, standard
+from .telling import ShowHelp, Teller, cut, give_up_output, standard
 from .readers import as_text, read_other
 from .results import PASSED
 from .text import Text, looks_like_a_suite, names_sessions
@@ -44,6 +45,7 @@ The status is 0 where all is as wanted, 1 where it isn't, 2 where the words are 
 """
 INTERRUPTED = 130
 MARKDOWN = ".md"
+NO_FILE = "it is no plain file"  # but a pipe or a device, from which nothing may ever come
 OF_CHECK = ("tap", "junit", "json")  # reports that `tmhost check` has, too
 
 
@@ -61,7 +63,8 @@ def positive(word: str) -> int:
 
 
 def arguments(words: List[str]) -> argparse.Namespace:
-    parser = argparse.ArgumentParser("tmhost-suite", None, ABOUT, NOTES, formatter_class=argparse.RawDescriptionHelpFormatter)
+    parser = argparse.ArgumentParser("tmhost-suite", None, ABOUT, NOTES, formatter_class=argparse.RawDescriptionHelpFormatter, add_help=False)
+    parser.add_argument("-h", "--help", action=ShowHelp)
     parser.add_argument("suites", nargs="+", metavar="SUITE")
     parser.add_argument("--version", action=ShowVersion)
     parser.add_argument("--accept", action="store_true", help="put what came into the text where it isn't what is wanted")
@@ -71,7 +74,7 @@ def arguments(words: List[str]) -> argparse.Namespace:
     parser.add_argument("--shard", type=shard, default=(1, 1), metavar="I/N", help="run the I-th of N parts of the suites")
     parser.add_argument("--rerun", choices=["failed"], help="run the cases that weren't as wanted in the last run")
     parser.add_argument("--resume", action="store_true", help="go on with a run that was cut off")
-    parser.add_argument("--jobs", type=positive, default=os.cpu_count() or 1, metavar="N", help="evaluate so many cases at a time")
+    parser.add_argument("--jobs", type=positive, metavar="N", help="evaluate so many cases at a time, also of several sessions of a suite (without it: each suite in the order of its text)")
     parser.add_argument("--random", metavar="SEED", help="take the cases of each session in the order of this seed ('new': a new one)")
     parser.add_argument("--fail-fast", action="store_true", help="begin no case after one that isn't as wanted")
     parser.add_argument("--seconds", type=seconds, default=60.0, metavar="N", help="how long a case may take that says nothing else (60)")
@@ -100,6 +103,8 @@ def read(path: str, words: Optional[str]) -> Read:
     """A suite, with its text where it is of the text form. The words are those of the session of another form."""
     if os.path.isdir(path):
         raise Trouble(f"no {MARKDOWN} file in this folder names sessions in its front matter")
+    if not stat.S_ISREG(os.stat(path).st_mode):
+        raise Trouble(NO_FILE)
     with open(path, "rb") as file:
         data = file.read()
     try:
@@ -137,6 +142,8 @@ def suites_of(path: str) -> List[str]:
 
 
 def is_suite(path: str) -> bool:
+    if not os.path.isfile(path):
+        return True
     try:
         with open(path, encoding="utf-8", errors="replace", newline="") as file:
             return looks_like_a_suite(file.read())
@@ -158,7 +165,8 @@ class Runner:
 
     def __init__(self, given: argparse.Namespace, teller: Teller) -> None:
         self.given, self.teller = given, teller
-        self.slots, self.ended, self.is_cut_off = threading.Semaphore(given.jobs), threading.Event(), threading.Event()
+        self.jobs: int = given.jobs or os.cpu_count() or 1
+        self.slots, self.ended, self.is_cut_off = threading.Semaphore(self.jobs), threading.Event(), threading.Event()
         self.sheets: List[Worksheet] = []  # those of suites that have begun
         self.accepted: List[str] = []  # what is said of texts that were changed
         self.ran: List[Ran] = []
@@ -177,8 +185,6 @@ class Runner:
         suites = [found for found in map(self._read, paths[number - 1 :: parts]) if found is not None]
         for doubt in (doubt for suite, _ in suites for doubt in suite.doubts):
             self.teller.say(doubt)
-        for suite, _ in suites:
-            self.teller.tell_bare_sessions(suite)
         self.teller.begin(sum(suite.count for suite, _ in suites))
         if self.given.random:
             self.teller.say(f"in the order of --random {self.seed}")
@@ -198,7 +204,7 @@ class Runner:
         """Runs suites side by side. What came of them is accepted in this thread alone, one suite after another. Where that is asked, it is when all have run:
         so one question stands at a time, and nothing else is shown below it."""
         ran: List[Tuple[Read, List[Reported]]] = []
-        with ThreadPoolExecutor(max(1, min(len(suites), self.given.jobs))) as pool:
+        with ThreadPoolExecutor(max(1, min(len(suites), self.jobs))) as pool:
             try:
                 for pair, found in zip(suites, pool.map(lambda pair: self._run_one(*pair), suites)):
                     if found is None:
@@ -283,6 +289,7 @@ class Runner:
         count = sum(chosen(at, case) for at, case in enumerate(suite.cases))
         with self.counting:
             self.chosen += count
+        refuse_bare_sessions(suite, chosen)
         if self.given.rerun and not count:
             self.teller.say(f"{suite.path}: no case of it failed in a run that is kept, so none is run")
         found = worksheets.resume(path, suite) if self.given.resume else None
@@ -291,7 +298,8 @@ class Runner:
         kept = found.kept if found is not None and found.kept is not None else worksheets.begin(path, suite, self.teller.say)
         with kept.sheet:
             self.sheets.append(kept.sheet)
-            plan = Plan(chosen, self.given.seconds, self.slots, self.ended, self.is_cut_off, self.given.fail_fast, self.seed)
+            is_side_by_side = (self.given.jobs or 1) > 1
+            plan = Plan(chosen, self.given.seconds, self.slots, self.ended, self.is_cut_off, self.given.fail_fast, self.seed, is_side_by_side)
             self.replayed.append(run(kept, plan, lambda at: self.teller.one_more()))
         reported = reported_of(suite, kept.results, chosen)
         broken = list(reports.broken_in(suite, kept.results))
@@ -349,20 +357,30 @@ class Runner:
                     file.write(text)
 
 
-def main(words: List[str]) -> int:
+def ran(words: List[str]) -> int:
     given = arguments(words)
+    if given.convert:
+        for text, said in [converted(path, given.words) for path in given.suites]:
+            sys.stdout.write(text)
+            sys.stderr.write("".join(f"tmhost-suite: {line}\n" for line in said))
+        return 0
+    show_building()
+    return 0 if Runner(given, standard(given.format is None)).run() else 1
+
+
+def main(words: List[str]) -> int:
     try:
-        if given.convert:
-            for text, said in [converted(path, given.words) for path in given.suites]:
-                sys.stdout.write(text)
-                sys.stderr.write("".join(f"tmhost-suite: {line}\n" for line in said))
-            return 0
-        show_building()
-        return 0 if Runner(given, standard(given.format is None)).run() else 1
+        try:
+            return ran(words)
+        finally:
+            sys.stdout.flush()
     except (Trouble, TmhostError) as trouble:
         print(f"tmhost-suite: {trouble}", file=sys.stderr)
+    except BrokenPipeError:
+        give_up_output()  # who reads it has seen enough
     except OSError as error:
         print(f"tmhost-suite: {error.strerror or error}" + (f": {error.filename}" if error.filename else ""), file=sys.stderr)
+        give_up_output()
     except KeyboardInterrupt:
         print("tmhost-suite: cut off; --resume goes on where it was", file=sys.stderr)
         return INTERRUPTED

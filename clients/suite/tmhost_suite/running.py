@@ -1,4 +1,4 @@
-"""Evaluates the cases of a suite, the sessions side by side, and judges what comes."""
+"""Evaluates the cases of a suite, in the order of its text or its sessions side by side, and judges what comes."""
 import contextlib
 import dataclasses
 import random
@@ -6,11 +6,11 @@ import re
 import threading
 import time
 from concurrent.futures import ThreadPoolExecutor
-from typing import Callable, List, Optional
+from typing import Callable, List, NamedTuple, Optional, Tuple
 
 from tmhost import Answer, Cell, Lost, Refused, TimedOut
 
-from .agenda import agenda_of, is_fixed
+from .agenda import Step, agenda_of, is_fixed
 from .cases import Case, Suite
 from .kept import Kept, joined
 from .results import BROKEN, WRONG, Result
@@ -22,8 +22,8 @@ GRACE = 2.0  # seconds for an interpreter that was interrupted to say so
 @dataclasses.dataclass
 class Plan:
     """What is run and how: `chosen` says which cases, `seconds` how long one may take, `slots` how many run at a time over all files, `ended` that no
-    more are begun, `is_cut_off` that what comes now isn't what a case came to, `fails_fast` that none is begun after a failure, and `seed` in which
-    order they come where it is drawn."""
+    more are begun, `is_cut_off` that what comes now isn't what a case came to, `fails_fast` that none is begun after a failure, `seed` in which
+    order they come where it is drawn, and `is_side_by_side` that no session waits for another one."""
 
     chosen: Callable[[int, Case], bool]
     seconds: float
@@ -32,6 +32,7 @@ class Plan:
     is_cut_off: threading.Event
     fails_fast: bool = False
     seed: Optional[int] = None
+    is_side_by_side: bool = False
 
 
 def verdict_of(case: Case, result: Result, is_good: bool) -> str:
@@ -93,6 +94,9 @@ class Chain:
         self.is_bare = False  # an answer came of another interpreter than the one before, which nobody had known to have ended
         self.replayed = 0  # how many cases were evaluated only for those after them
         self.broken = ""  # why its interpreter hasn't what the tool sets up for its cases
+        self.own = [at for at in self.order if self.suite.cases[at].is_own and self.suite.cases[at].marks.is_setup]
+        self.past: List[int] = []  # what a run that was cut off had done, of which `needed` is replayed before the first case
+        self.needed: List[int] = []
 
     @property
     def order(self) -> List[int]:
@@ -106,30 +110,44 @@ class Chain:
             places = first + list(mixed) + [at for at in fixed if at not in first]
         return places
 
-    def _is_broken(self, own: List[int]) -> bool:
-        """Whether what the tool sets up, at these places, went wrong."""
-        return any(at in self.kept.results and self.kept.results[at].verdict == BROKEN for at in own)
+    def _is_broken(self) -> bool:
+        """Whether what the tool sets up went wrong."""
+        return any(at in self.kept.results and self.kept.results[at].verdict == BROKEN for at in self.own)
+
+    def begin(self) -> List[Step]:
+        """What it is to evaluate, in this order."""
+        agenda = agenda_of(self.suite, self.order, self.kept.results, self.plan.chosen)
+        self.past, self.needed = agenda.past, agenda.needed
+        return agenda.steps
+
+    def turns(self) -> "List[Turn]":
+        """The same, each with where it comes among those of all sessions: at the place in the text, and what takes down after all others. Cases that are
+        shuffled have the places of their session one after another."""
+        steps = self.begin()
+        places = sorted((self.suite.cases[step.at].marks.is_teardown, step.at) for step in steps)
+        return [Turn(place, step, self) for place, step in zip(places, steps)]
 
     def run(self) -> None:
-        agenda = agenda_of(self.suite, self.order, self.kept.results, self.plan.chosen)
-        own = [at for at in self.order if self.suite.cases[at].is_own and self.suite.cases[at].marks.is_setup]
-        past = agenda.past
-        for at, is_judged in agenda.steps:
-            case = self.suite.cases[at]
-            if self._is_broken(own) and not case.marks.is_teardown:
-                continue  # it would be evaluated elsewhere than in what the program of its form makes for it
-            with self.plan.slots:
-                if self.plan.ended.is_set():
-                    return
-                if past:
-                    self._replay_past(past, agenda.needed)
-                    past = []
-                if is_judged:
-                    self._judge(at, case)
-                else:
-                    self._replay_case(at)
-            if is_judged and not case.is_own:
-                self.tell(at)
+        for step in self.begin():
+            self.take(step)
+
+    def take(self, step: Step) -> None:
+        """Evaluates a case, where nothing has ended all."""
+        case = self.suite.cases[step.at]
+        if self._is_broken() and not case.marks.is_teardown:
+            return  # it would be evaluated elsewhere than in what the program of its form makes for it
+        with self.plan.slots:
+            if self.plan.ended.is_set():
+                return
+            if self.past:
+                self._replay_past(self.past, self.needed)
+                self.past = []
+            if step.is_judged:
+                self._judge(step.at, case)
+            else:
+                self._replay_case(step.at)
+        if step.is_judged and not case.is_own:
+            self.tell(step.at)
 
     def _judge(self, at: int, case: Case) -> None:
         tries, good, result = 0, False, Result("", 0.0)
@@ -299,11 +317,21 @@ class Chain:
             self.broken = shown.text
 
 
+class Turn(NamedTuple):
+    place: Tuple[bool, int]
+    step: Step
+    chain: Chain
+
+
 def run(kept: Kept, plan: Plan, tell: Callable[[int], None]) -> int:
-    """Runs all cases that aren't done, each session in a thread of its own. Says how many were evaluated only for those after them."""
+    """Runs all cases that aren't done. Says how many were evaluated only for those after them."""
     judge_again(kept)
     chains = [Chain(kept, name, plan, tell) for name in kept.suite.sessions]
-    with ThreadPoolExecutor(len(chains)) as pool:
-        for done in [pool.submit(chain.run) for chain in chains]:
-            done.result()
+    if plan.is_side_by_side:
+        with ThreadPoolExecutor(len(chains)) as pool:
+            for done in [pool.submit(chain.run) for chain in chains]:
+                done.result()
+    else:
+        for turn in sorted((turn for chain in chains for turn in chain.turns()), key=lambda turn: turn.place):
+            turn.chain.take(turn.step)
     return sum(chain.replayed for chain in chains)

@@ -1,11 +1,12 @@
 """What came of a run, for people: differences, counts, the slowest cases, and on a terminal how far it is."""
+import argparse
+import os
 import sys
 import threading
-from typing import Dict, List, Set, TextIO, Tuple
+from typing import Any, Dict, List, NoReturn, Optional, Set, TextIO, Tuple
 
-from tmhost.starting import doubt, why_it_ends, without_adapter
+from tmhost.starting import doubt, why_it_ends
 
-from .cases import Suite
 from .reports import Reported, printable
 from .results import WITHOUT_ANSWER
 
@@ -72,13 +73,6 @@ class Teller:
             self.say(printable(f"  before it ended its interpreter had written: {reported.said}"))
         for line in shortened(reported.diff[2:] if reported.differs_in_text else reported.diff):
             self.say("  " + self.painted(printable(line), COLOURS.get(line[:1], "")))
-
-    def tell_bare_sessions(self, suite: Suite) -> None:
-        """The sessions that will never have an answer, before each of their cases waits until its time is over."""
-        for name, words in suite.sessions.items():
-            why = without_adapter(words) if suite.of(name) and "/" not in words[0] else None
-            if why:
-                self.say(printable(f"{suite.path}: the session {name}: {why}"))
 
     def tell_unstarted_sessions(self, all_reported: List[Reported]) -> None:
         """The sessions whose interpreter didn't start, since what that said of it stands nowhere."""
@@ -152,3 +146,25 @@ def applied_in(all_reported: List[Reported]) -> Set[int]:
 def standard(has_output: bool = True) -> Teller:
     """One of the program's own streams. It has standard output, or a report has."""
     return Teller(sys.stdout if has_output else sys.stderr, sys.stderr)
+
+
+# ---- standard output that takes nothing, as that of a full disk
+
+
+class ShowHelp(argparse.Action):
+    """That of argparse is silent where its text can't be written, in Python 3.12 and later."""
+
+    def __init__(self, option_strings: Any, dest: str) -> None:
+        super().__init__(option_strings, argparse.SUPPRESS, nargs=0, default=argparse.SUPPRESS, help="show this help")
+
+    def __call__(self, parser: argparse.ArgumentParser, namespace: argparse.Namespace, values: Any, option_string: Optional[str] = None) -> NoReturn:
+        sys.stdout.write(parser.format_help())
+        parser.exit()
+
+
+def give_up_output() -> None:
+    """After a failure nothing more goes to standard output where it takes nothing: Python would try that again at its end, and say so in its own words."""
+    try:
+        sys.stdout.flush()
+    except OSError:
+        os.dup2(os.open(os.devnull, os.O_WRONLY), sys.stdout.fileno())

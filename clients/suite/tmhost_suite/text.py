@@ -10,12 +10,12 @@ from tmhost.near import near
 from tmhost_fences.blocks import LINE, Block, blocks_of, cut
 from tmhost_fences.fields import groups, language_in, whole
 from tmhost_fences.front import KEY_OF_MAPPING, SESSIONS, Sessions, front_of, matter_end, refuse_misspelt, sessions_meant, why_misspelt
-from tmhost_fences.info import LITERAL, info_of
+from tmhost_fences.info import ATTRIBUTES, LITERAL, info_of
 from tmhost_fences.meant import OTHERS, session_meant
 from tmhost_fences.troubles import Trouble, needed
 
 from .cases import Case, Suite
-from .marks import has_marks, is_text, read_marks, seconds, session_in
+from .marks import has_marks, is_text, read_marks, refuse_marks, seconds, session_in
 from .rules import FORMULAS, PICTURES, Normal, Rules, allowance, normal_of
 
 ANSWER, ERROR = "answer", "error"
@@ -149,12 +149,27 @@ def is_after(block: Block, other: Block, lines: Sequence[str]) -> bool:
     return not any(line.strip(" \t>") for line in lines[block.end : other.begin])
 
 
+def misplaced(info: str, known: Sequence[str]) -> Optional[str]:
+    """Why a fence is no case, nor what is wanted of one, though its word stands there: it does so at another place."""
+    first = (info.split() or [""])[0]
+    word = first.partition("{")[0]
+    if word != first and word in known:
+        return f"{ascii(first)}: write a blank before the braces"
+    classes = [one[1:] for found in ATTRIBUTES.findall(info)[:1] for one in found.split() if one.startswith(".")]
+    if info.startswith("{#") and classes[:1] and classes[0] in known:
+        return f"{ascii(first)}: .{classes[0]} comes first in its braces"
+    return None
+
+
 def misspelling(info: str, sessions: Sessions) -> Optional[str]:
     """Why a fence may be meant for a case or what is wanted of one, though its word says that it is neither. None where that is as it should be."""
     name = session_in(info) or info_of(info).name
-    if not name or is_text(info):
-        return None
     known = (*sessions, ANSWER, ERROR)
+    if is_text(info):
+        return None
+    place = misplaced(info, known)
+    if place or not name:
+        return place
     if name in sessions and session_in(info) is None:
         return f"`{{{name}}}` is a chunk of another program, and no fence of a session: is `{{.{name}}}` meant?"
     if name in known:
@@ -236,6 +251,8 @@ class Text:
     def _add(self, session: str, block: Block, found: Dict[str, Block]) -> None:
         line = block.begin + 1
         marks = read_marks(block.info_text, line)
+        for kind, one in found.items():
+            refuse_marks(one.info_text, one.begin + 1, kind)
         for one in (block, *found.values()):
             if not one.is_closed:
                 raise Trouble(f"the fence in line {one.begin + 1} isn't closed")
