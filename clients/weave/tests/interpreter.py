@@ -12,7 +12,7 @@ lines that it has got, so that an answer tells what was evaluated before it.
     sleep SECONDS
     until PATH    answers when this file is there
     stuck         never answers
-    die           ends
+    die TEXT      writes TEXT as the beginning of an answer, and ends
     bye           answers as it does any line, and ends
 
 With a value for the environment variable TMHOST_SLEEP, each line takes so many seconds.
@@ -61,6 +61,8 @@ def answer(lines: List[str]) -> bytes:
     if word == "quiet":
         return b""
     if word == "die":
+        sys.stdout.buffer.write(b"\x02verbatim:" + written(rest) if rest else b"")
+        sys.stdout.buffer.flush()
         sys.exit(3)
     while word == "until" and not os.path.exists(rest):
         time.sleep(0.02)

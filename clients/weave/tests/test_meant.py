@@ -115,4 +115,4 @@ class Meant(Case):
 
     def test_a_bare_word_in_braces(self) -> None:
         text = self.front("a") + "```a {hdie}\nx\n```\n"
-        self.assertEqual(self.said(text), (1, [f"line 5: 'hdie' is none of the words that a fence can have: hide, fold, pure, whole, literal: is hide meant?"], text))
+        self.assertEqual(self.said(text), (1, [f"line 5: 'hdie' is none of the words that a fence can have: hide, fold, pure, whole, ends, literal: is hide meant?"], text))

@@ -2,6 +2,7 @@
 import os
 import shutil
 import signal
+import stat
 import subprocess
 import sys
 import time
@@ -62,12 +63,12 @@ class Ends(Messages):
         status, said = self.said(self.front(x=words) + fences([("x", "u\nv\nw")]))
         at = line_of(self.read(), "u")
         self.assertEqual((status, said), (1, [
-            "x: 0 evaluated, 3 without an answer", f"line {at}: x: no answer: this code ended its interpreter", f"2 later fields of x aren't evaluated (lines {at + 1} to {at + 2})",
+            "x: 0 evaluated, 3 without an answer", f"line {at}: x: no answer: its interpreter ended at this code (where that is meant: {{ends}} at its fence)", f"2 later fields of x aren't evaluated (lines {at + 1} to {at + 2})",
         ]))
         self.assertEqual(self.read(self.place("starts")), "start\n")
         status, said = self.said(self.front("a") + fences([("a", "x"), ("a", "die"), ("a", "y")]))
         at = line_of(self.read(), "die")
-        self.assertEqual((status, said[1:]), (1, [f"line {at}: a: no answer: this code ended its interpreter", f"1 later field of a isn't evaluated (line {line_of(self.read(), 'y')})"]))
+        self.assertEqual((status, said[1:]), (1, [f"line {at}: a: no answer: its interpreter ended at this code (where that is meant: {{ends}} at its fence)", f"1 later field of a isn't evaluated (line {line_of(self.read(), 'y')})"]))
 
     def test_in_a_replay(self) -> None:
         """The line that ended it is named, which has an answer."""
@@ -78,7 +79,7 @@ class Ends(Messages):
         woven = self.read()
         self.assertEqual((status, said), (1, [
             "x: 2 kept, 0 evaluated, 1 without an answer, 2 replayed",
-            f"line {line_of(woven, 'other')}: x: not evaluated, since at the replay of line {line_of(woven, 'v')} that code ended the interpreter",
+            f"line {line_of(woven, 'other')}: x: not evaluated, since the interpreter ended at the replay of line {line_of(woven, 'v')}",
         ]))
         self.assertEqual(answers(woven), ["u", "v"])
 
@@ -207,6 +208,73 @@ class Troubles(Messages):
             self.assertRegex(done.stderr, r"\A(.*: a: .*\n)?.*: File too large(: .*)?\n\Z")
             self.assertEqual(sorted(os.listdir(self.folder)), ["a.log", "limited", "text.md", "text.sheet", "text.sheet.alt"])
             self.assertEqual(self.read() == text, code != "x")
+
+    def test_a_limit_of_the_length_of_files(self) -> None:
+        """What ended an interpreter isn't known, and isn't said to be its code. Of the program it is known."""
+        limited = ["sh", "-c", 'ulimit -f 40; exec "$@"', "sh", *command_words(self.text)]
+        self.write("---\nsessions: {py: [tmhost-python]}\n---\n" + fences([("py", "'x' * 30_000")]))
+        ended = subprocess.run(limited, capture_output=True, text=True, env=environment())
+        said = "line 7: py: no answer: its interpreter ended at this code (where that is meant: {ends} at its fence)"
+        self.assertEqual((ended.returncode, ended.stderr.split("\n")[1]), (1, f"{self.text}: {said}"))
+        os.remove(self.sheet)
+        self.write("x" * 15_000, self.place("long"))
+        text = self.front("a") + fences([("a", f"file {self.place('long')}")] * 2)
+        self.write(text)
+        ended = subprocess.run(limited, capture_output=True, text=True, env=environment())
+        said = "the limit of the length of files (ulimit -f) leaves no room for text.sheet; 1 of 2 answers is kept: raise it and weave again"
+        self.assertEqual((ended.returncode, ended.stderr, self.read()), (1, f"{self.text}: {said}\n", text))
+        self.assertEqual(self.weave(text).count("x" * 15_000), 2)
+
+    def device(self, name: str, minor: int) -> str:
+        """One of the system, or where this user could replace that, one like it in the folder of the test."""
+        if os.geteuid():
+            return f"/dev/{name}"
+        try:
+            os.mknod(self.place(name), stat.S_IFCHR | 0o666, os.makedev(1, minor))
+            with open(self.place(name), "wb"):
+                return self.place(name)
+        except OSError:
+            self.skipTest("no device can be made here")
+
+    def test_a_device(self) -> None:
+        """It is written to, and stays what it is; one that takes nothing is said to have no space left."""
+        null, full = self.device("null", 3), self.device("full", 7)
+        text = self.front("a") + fences([("a", "x")])
+        self.assertEqual(self.said(text, "--output", null), (0, ["a: 1 evaluated"]))
+        self.assertEqual(self.said(text, "--output", full), (1, [f"nothing can be written to {full}: No space left on device"]))
+        self.assertEqual((self.run_weave("--check", "--output", full, self.text).status, self.read()), (1, text))
+        self.assertEqual([stat.S_ISCHR(os.stat(name).st_mode) for name in (null, full)], [True, True])
+        self.assertEqual([name for name in os.listdir(os.path.dirname(null)) if "tmhost-weave" in name], [])
+
+    def test_what_is_no_file(self) -> None:
+        """A named pipe is waited for nowhere: as the text, as another place for it, as its page, as a picture."""
+        pipe = self.place("pipe.html")
+        os.mkfifo(pipe)
+        os.symlink(pipe, self.place("pipe.png"))
+        for words in ([pipe], ["--check", pipe], ["--test", pipe]):
+            self.assertEqual(self.run_weave(*words), (1, "", f"{pipe}: {pipe} is no plain file\n"))
+        text = self.front("a") + fences([("a", "x")])
+        for option in ("--output", "--html"):
+            self.assertEqual(self.said(text, option, pipe), (1, [f"{option}: {pipe} is no plain file"]))
+        self.assertEqual((self.logged("a"), sorted(os.listdir(self.folder))), ([], ["pipe.html", "pipe.png", "text.md"]))
+        status, said = self.said(text + "![](pipe.png)\n", "--html", self.place("page.html"))
+        self.assertEqual((status, said[-1]), (1, f"the picture pipe.png isn't in the page: {self.place('pipe.png')} is no plain file"))
+
+    def test_an_output_that_takes_nothing(self) -> None:
+        """No call has succeeded of which something couldn't be printed; one whose reader has seen enough says nothing of that."""
+        self.write(self.front("a") + fences([("a", "x")]))
+        for unbuffered in ("", "1"):
+            for words in (["--help"], ["--version"], ["--output", "-", self.text], ["--check", "--output", self.place("none.md"), self.text]):
+                with open("/dev/full", "wb") as full:
+                    done = subprocess.run(command_words(*words), stdout=full, stderr=subprocess.PIPE, text=True, env=environment(PYTHONUNBUFFERED=unbuffered))
+                self.assertEqual(done.returncode, 1, words)
+                self.assertRegex(done.stderr, r"(?:\A|\n)[^\n]+: No space left on device\n\Z")
+                self.assertNotIn("Traceback", done.stderr)
+        reader, writer = os.pipe()
+        os.close(reader)
+        with os.fdopen(writer, "wb") as closed:
+            done = subprocess.run(command_words("--help"), stdout=closed, stderr=subprocess.PIPE, text=True, env=environment())
+        self.assertEqual((done.returncode, done.stderr), (1, ""))
 
     def test_how_full_a_disk_is(self) -> None:
         for blocks, is_full in ((0, True), (10, True), (10_000, False)):

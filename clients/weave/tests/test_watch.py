@@ -276,7 +276,7 @@ class Ended(Watching):
             self.until_said(STAYS)
             whole = self.read()
             in_place(self.text, whole + fences([("a", "die"), ("a", "z")]))
-            self.until_said("this code ended its interpreter")
+            self.until_said("its interpreter ended at this code")
             self.assertIn("tmhost-no-answer", self.until_text_has("tmhost-no-answer"))
             in_place(self.text, whole)
             self.until_said("nothing was to evaluate")

@@ -33,6 +33,9 @@ class Edits(Watching):
         if self.random.random() < 0.5:
             return self.random.choice(["py", "py", "py {whole}", "py {hide}", "py {pure}"]), self.random.choice(OF_PYTHON)
         lines = "\n".join(f"line {self.random.randrange(4)}" for _ in range(self.random.randrange(1, 4)))
+        if self.random.random() < 0.25:
+            ends = self.random.choice(["die", "die its words", "bye", "bye\nnever", "die\nnever", "die \\x03\\n\\n"])
+            return self.random.choice(["a {ends}", "a {ends}", "a {whole ends}", "a {pure ends}"]), f"{lines}\n{ends}"
         return self.random.choice(["a", "a", "a", "a {whole}", "a {fold}", "a {pure}"]), lines
 
     def whole(self, blocks: Blocks) -> str:

@@ -192,7 +192,7 @@ class Weaving(Case):
         self.write(self.front("a") + fences([("a", "x"), ("a", "die"), ("a", "y")]))
         done = self.run_weave()
         at = self.read().split("\n").index("die") + 1
-        self.assertEqual((done.status, f"{self.text}: line {at}: a: no answer: this code ended its interpreter\n" in done.errors), (1, True), done.errors)
+        self.assertEqual((done.status, f"{self.text}: line {at}: a: no answer: its interpreter ended at this code (where that is meant: {{ends}} at its fence)\n" in done.errors), (1, True), done.errors)
 
     def test_what_a_replay_shows(self) -> None:
         """Where an interpreter answers otherwise now, that is reported of the answers that are kept."""

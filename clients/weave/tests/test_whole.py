@@ -71,7 +71,7 @@ class Tested(Case):
         woven = self.weave(self.front("a") + fences([("a", "die")]), 1)
         done = self.run_weave("--test", self.text)
         self.assertEqual((done.status, done.output, self.read()), (1, "", woven))
-        self.assertIn("a: no answer: this code ended its interpreter", done.errors)
+        self.assertIn("a: no answer: its interpreter ended at this code", done.errors)
 
     def test_words_that_are_refused(self) -> None:
         self.write(self.front("a"))

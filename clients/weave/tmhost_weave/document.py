@@ -16,9 +16,9 @@ from .answers import Finder, Shown, is_of_an_answer, lines_of
 
 BARE_WORD = re.compile(r"[A-Za-z][A-Za-z-]*")
 TAB = 4  # columns
-HIDE, FOLD, PURE, WHOLE = "hide", "fold", "pure", "whole"
+HIDE, FOLD, PURE, WHOLE, ENDS = "hide", "fold", "pure", "whole", "ends"
 ECHO = "echo"
-FLAGS = (HIDE, FOLD, PURE, WHOLE)
+FLAGS = (HIDE, FOLD, PURE, WHOLE, ENDS)
 WORDS = (*FLAGS, LITERAL)
 TEXTLESS = "textless"  # no text of an answer is shown, as by `results='hide'`
 ERRORS_WANTED, ERRORS_FAIL = "errors wanted", "errors fail"  # by `error=TRUE` and `error=FALSE`
@@ -43,6 +43,11 @@ class Fence:
     @property
     def is_pure(self) -> bool:
         return PURE in self.flags
+
+    @property
+    def ends(self) -> bool:
+        """Whether its code is meant to end its interpreter."""
+        return ENDS in self.flags
 
     @property
     def groups(self) -> List[Group]:
@@ -144,6 +149,8 @@ class Document:
                 finder = Finder(tokens, at, token.map[1], body, first)
                 self.fences.append(self._fence(block, named, finder, first))
                 self.doubts += [(block.begin + 1, why) for why in misspelt(block)]
+                if self.fences[-1].ends and not self.fences[-1].groups:
+                    self.doubts.append((block.begin + 1, f"no code is here that could end its interpreter, as {{{ENDS}}} says"))
                 self._note_ignored(block)
                 at = finder.at
             elif is_of_an_answer(block.info_text):
@@ -159,6 +166,11 @@ class Document:
             is_of_page = name == ECHO and block.options[name].lower() in NO
             if not option_meant(name):
                 (self.of_pages if is_of_page else self.ignored).setdefault(name, block.begin + 1)
+
+    @property
+    def has_ends(self) -> bool:
+        """Whether code of it is meant to end its interpreter."""
+        return any(fence.ends for fence in self.fences)
 
     @property
     def is_doubtful(self) -> bool:

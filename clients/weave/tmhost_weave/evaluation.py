@@ -5,52 +5,26 @@ import threading
 import time
 from typing import Callable, Dict, Iterator, List, Optional, Set, Tuple
 
-from tmhost import Banner, Cell, Ended, Event, Lost, Refused, TimedOut, Worksheet
+from tmhost import Cell, Lost, Refused, TimedOut
 
+from .document import ENDS
 from .files import Changed
-from .lives import Lives
-from .plan import MARK, Plan, Wanted
+from .lives import AT_CODE, AT_START, UNSENT, Ends, Lives
+from .plan import ENDED as ENDED_SESSION, MARK, Plan, Wanted, note_of, noted
 
 BELOW = "what stands below is of a replay, and is removed"
 UNTRIED = "not evaluated, since what stands before it in its session has no answer"
 ENDED = "not evaluated, since its interpreter ended by itself after what stands before it"
-AT_START, AT_CODE = "before its banner", "at the code of a field"  # when an interpreter ended
+NOT_ENDED = f"this code didn't end its interpreter, as {{{ENDS}}} says that it does"
 PATIENCE = 30.0  # seconds after which it is said that a field has no answer yet
 LOOK = 0.3  # seconds after which it is asked whether a field is still wanted
-HEARD_WITHIN = 10.0  # seconds in which an end is heard of that a caller knows already
+NO_ANSWER = "no answer: {}"
+SETTLES = 0.3  # seconds in which an interpreter ends that does so by itself after an answer: else what comes next would be taken for what has ended it
+ENDS_WITHIN = 5.0  # seconds after its answer in which code has ended its interpreter that is meant to
 
 
 class Another(Exception):
     """Another interpreter was asked than the one that has answered what stands before, since that has ended."""
-
-
-class Ends:
-    """Hears of each interpreter that has ended whether it had greeted: then its code ended it. The events come on a thread of the worksheet."""
-
-    def __init__(self, sheet: Worksheet) -> None:
-        self._greeted = {(session.name, session.life) for session in sheet.sessions.values() if session.life is not None}
-        self._ended: Dict[str, str] = {}
-        self._changed = threading.Condition()
-        self.stop = sheet.listen(self._hear)
-
-    def _hear(self, event: Event) -> None:
-        with self._changed:
-            if isinstance(event, Banner):
-                self._greeted.add((event.session, event.life))
-                self._ended.pop(event.session, None)  # of an earlier one, which had nothing to answer
-            elif isinstance(event, Ended) and event.reason == "Ended":
-                self._ended[event.session] = AT_CODE if (event.session, event.life) in self._greeted else AT_START
-                self._changed.notify_all()
-
-    def has_greeted(self, session: str, life: Optional[int]) -> bool:
-        with self._changed:
-            return (session, life) in self._greeted
-
-    def take(self, session: str) -> Optional[str]:
-        """When the interpreter of a session ended that a caller has lost."""
-        with self._changed:
-            self._changed.wait_for(lambda: session in self._ended, HEARD_WITHIN)
-            return self._ended.pop(session, None)
 
 
 class Evaluator:
@@ -81,16 +55,58 @@ class Evaluator:
     def _evaluate_all(self) -> None:
         stale = [wanted for wanted in self.plan.wanted if not wanted.is_kept]
         for place, wanted in enumerate(stale):
+            if wanted.is_skipped:
+                continue
             self.begun(wanted, place, len(stale))
             with self._watched(wanted):
                 wanted.failure = self._failure(wanted)
-            wanted.is_answered = wanted.failure is None
+            if wanted.fence.ends:
+                self._heed_end(wanted)
+            wanted.is_answered = not wanted.is_skipped and wanted.failure in (None, NOT_ENDED)
             if wanted.failure and not wanted.fence.is_pure:
                 self.failed.add(wanted.session)
                 self.unstarted |= {wanted.session} if wanted.is_unstarted else set()
         # The mark that stands in front of the others goes last.
         for cell in reversed(self._scratch):
             cell.remove()
+
+    # ---- code that is meant to end its interpreter
+
+    def _heed_end(self, wanted: Wanted) -> None:
+        """Notes that a field of such code has ended it, or makes it a failure that all of them have an answer."""
+        try:
+            if not self._has_noted_end(wanted) and wanted.failure is None and wanted.is_last:
+                self.sheet.stop(wanted.session)
+                wanted.failure = NOT_ENDED
+        except Refused as refused:
+            wanted.failure = str(refused)
+
+    def _has_noted_end(self, wanted: Wanted) -> bool:
+        if wanted.failure is None and wanted.is_last:
+            found = self._ends.take(wanted.session, ENDS_WITHIN)
+            if found:
+                self._note_end(wanted, found.said)
+            return found is not None
+        before = self.plan.before_in_fence(wanted)
+        if wanted.end == AT_CODE and wanted.ender is wanted:
+            self._note_end(wanted, wanted.last_words)
+        elif wanted.failure in (ENDED, NO_ANSWER.format(UNSENT)) and before:
+            found = self._ends.take(wanted.session, 0.0)
+            self._note_end(before, found.said if found else "")
+        else:
+            return False
+        return True
+
+    def _note_end(self, ender: Wanted, said: str) -> None:
+        """Has the worksheet say that a field has ended its interpreter. Those after it in its fence have no answer then, but one that no field can have stays a failure."""
+        assert ender.id is not None
+        for one in (one for one in self.plan.after_in_fence(ender) if not one.misfit):
+            one.is_skipped, one.failure, one.end, one.ender, one.is_unstarted = True, None, None, None, False
+            if one.id is not None and self.sheet.cell(one.id).state != "empty":
+                self.sheet.clear(one.id)
+        text = noted(said)
+        ender.note = self.sheet.new(ENDED_SESSION.name, note_of(ender.id, text), ender.id).id
+        ender.said, ender.failure, ender.end, ender.ender, ender.is_unstarted = text, None, None, None, False
 
     @contextlib.contextmanager
     def _watched(self, wanted: Wanted) -> Iterator[None]:
@@ -127,8 +143,11 @@ class Evaluator:
         if kept and self.lives.answered(wanted.session) == inputs:
             self.replayed[wanted.session], self._asked[wanted.session] = 0, inputs
             self._has_lost = False
+            if wanted.fence.ends and self.plan.before_in_fence(wanted):
+                self._ends.take(wanted.session, SETTLES)
             failure = self._evaluate(cell, wanted, wanted)
-            if failure != ENDED and not self._has_lost:
+            is_meant = wanted.fence.ends and wanted.end == AT_CODE
+            if is_meant or failure != ENDED and not self._has_lost:
                 return failure
             wanted.end, wanted.ender, wanted.is_unstarted = None, None, False  # it may have ended before it was asked, while nothing was evaluated
         self._start(wanted.session)
@@ -160,6 +179,8 @@ class Evaluator:
         """Why a cell has no answer to this code, which is there for the sake of a field. It is asked of no interpreter that hasn't answered what stands before it."""
         self._refuse_outdated(wanted)
         asked = self._asked[cell.session]
+        if asked and code is wanted and wanted.fence.ends and not self.plan.before_in_fence(wanted):
+            self._ends.take(cell.session, SETTLES)
         if self.lives.answered(cell.session) != asked:
             return ENDED
         try:
@@ -167,10 +188,11 @@ class Evaluator:
                 self._answer(cell, wanted, life if asked else None)
         except Lost as lost:
             self._has_lost = True
-            if lost.reason == "Ended":
-                wanted.end, wanted.ender = self._ends.take(cell.session), code
+            found = self._ends.take(cell.session) if lost.reason == "Ended" else None
+            if found:
+                wanted.end, wanted.last_words, wanted.ender = found.when, found.said, code
             wanted.is_unstarted = lost.reason == "StartRefused" or wanted.end == AT_START
-            return f"no answer: {lost.reason}"
+            return NO_ANSWER.format(lost.reason)
         except Refused as refused:
             return str(refused)
         except TimedOut:

@@ -5,7 +5,8 @@ import errno
 import fcntl
 import os
 import shutil
-from typing import Iterator, Optional, Tuple
+import stat
+from typing import BinaryIO, Iterator, Optional, Tuple
 
 from .sheets import remove
 from tmhost_fences.aside import sync
@@ -13,6 +14,7 @@ from tmhost_fences.troubles import Trouble
 
 LONGEST = 67_108_864  # bytes, as of a script of tmhost
 HERE, EXCHANGE = -100, 2  # AT_FDCWD and RENAME_EXCHANGE of Linux
+NO_FILE = "{} is no plain file"
 Stamp = Optional[Tuple[int, int, int, int]]
 
 
@@ -40,8 +42,17 @@ def stamp_of(path: str) -> Stamp:
     return found.st_dev, found.st_ino, found.st_size, found.st_mtime_ns
 
 
+@contextlib.contextmanager
+def opened(path: str) -> Iterator[BinaryIO]:
+    """A file to be read. Nobody is waited for who would write into a pipe: that is none."""
+    with open(path, "rb", opener=lambda name, flags: os.open(name, flags | os.O_NONBLOCK)) as file:
+        if not stat.S_ISREG(os.fstat(file.fileno()).st_mode):
+            raise Trouble(NO_FILE.format(path))
+        yield file
+
+
 def read(path: str) -> bytes:
-    with open(path, "rb") as file:
+    with opened(path) as file:
         data = file.read(LONGEST + 1)
     if len(data) > LONGEST:
         raise Trouble(f"{path} has more than {LONGEST:,} bytes")
@@ -51,7 +62,7 @@ def read(path: str) -> bytes:
 @contextlib.contextmanager
 def locked(path: str) -> Iterator[None]:
     """Keeps other weaves of the same text away."""
-    with open(path, "rb") as file:
+    with opened(path) as file:
         try:
             fcntl.flock(file, fcntl.LOCK_EX | fcntl.LOCK_NB)
         except BlockingIOError:
@@ -121,6 +132,30 @@ def put_over(new: str, path: str, data: bytes, old: bytes) -> None:
     remove(new)
     if there is not data:
         raise Changed
+
+
+def is_device(path: str) -> bool:
+    """Whether it is one to which bytes are written, as /dev/null. It isn't replaced, as a file is."""
+    return os.path.exists(path) and stat.S_ISCHR(os.stat(path).st_mode)
+
+
+def refuse_other_than_files(option: str, path: str) -> None:
+    """Refuses what is neither a file nor a folder, as a pipe, where a file is to be replaced."""
+    if os.path.exists(path) and not os.path.isfile(path) and not os.path.isdir(path):
+        raise Trouble(f"{option}: {NO_FILE.format(path)}")
+
+
+def read_other(path: str) -> Optional[bytes]:
+    """What stands in another file than the text; None where none is there."""
+    return read(path) if os.path.isfile(path) else None
+
+
+def write_to(device: str, data: bytes) -> None:
+    try:
+        with open(device, "wb") as file:
+            file.write(data)
+    except OSError as error:
+        raise Trouble(f"nothing can be written to {device}: {error.strerror}") from None
 
 
 def put_in_folder(path: str, data: bytes) -> None:

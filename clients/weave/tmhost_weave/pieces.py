@@ -4,10 +4,11 @@ from typing import List
 
 from tmhost import Field
 
-from .answers import ANSWER, ERROR, FORMULA, PICTURE, Piece
+from .answers import ANSWER, ERROR, FORMULA, NO_ANSWER, PICTURE, Piece
 from .formulas import parts_of
 from .pictures import Pictures
 
+ENDED = Piece(NO_ANSWER, "the interpreter ended")  # of code that was meant to end it
 LONG_RUN = re.compile("`{255,}")  # cmark counts the backquotes of a fence up to 255, so a line of more would close any
 
 

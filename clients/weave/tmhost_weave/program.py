@@ -4,7 +4,7 @@ import os
 import re
 import sys
 import tempfile
-from typing import List, Optional
+from typing import IO, List, Optional
 
 from tmhost import TmhostError
 from tmhost.errors import plain
@@ -25,21 +25,29 @@ With --html a page of the woven text is written, too, which stands alone: prose,
 Nothing is evaluated for it a second time. It is written only where each field has an answer and nothing looks misspelt or fails; a picture or formulas may be missing in it.
 It has no code of fences with echo=FALSE or include=FALSE.
 Several texts are woven in turn: the status is that of the worst, and the last line names those that failed.
+With --all nothing is kept: each field is evaluated again, as by a first weave, which is wanted where a file has changed that the code reads.
 With --watch the interpreters of a text run on between its weaves: what is added at the end of a session is evaluated alone. Where something is changed that
 was evaluated, its session is started again, as by any weave. The worksheet stays open meanwhile. Control-C ends it, with the status 0 where it waits.
 The front matter of TEXT names the sessions, as `sessions: {py: [tmhost-python]}`. After the session of a fence may
-stand {whole}, {pure}, {hide} and {fold}, or {literal} where its code is a text; `fences: whole` in the front matter makes each fence one field.
+stand {whole}, {pure}, {ends}, {hide} and {fold}, or {literal} where its code is a text; `fences: whole` in the front matter makes each fence one field.
 The answers are kept in the worksheet beside TEXT, whose name ends in .sheet. The program is the one that TMHOST names, tmhost on PATH, or the one
 that was built or installed with this.
 
 The status is 0 where all fields are answered, 1 where one isn't, where a fence is of no session that looks like one (`{r}`, r {hide}, python beside
 the session py), where a word of a fence looks misspelt, where sessions are named and nothing is evaluated, where --check says that something would
-change or --test that an answer is another one, or where something went wrong; 2 where the words are refused, and 130 after Control-C. An answer may
+change or --test that an answer is another one, where code with {ends} doesn't end its interpreter, or where something went wrong; 2 where the words are refused, and 130 after Control-C. An answer may
 be an error that its interpreter reports: standard error says how many are, and in which lines their code stands. With --no-errors the status is 1
 then, but for code with error=TRUE in braces; it is for code with error=FALSE without that word, too. The text is woven in any case.
 """
 INTERRUPTED = 130
 NUMBER = re.compile("[1-9][0-9]{0,11}")
+
+
+class Parser(argparse.ArgumentParser):
+    """One that doesn't hide that its help can't be written."""
+
+    def _print_message(self, message: str, file: Optional[IO[str]] = None) -> None:
+        print(message, end="", file=file or sys.stderr, flush=True)
 
 
 def seconds(word: str) -> float:
@@ -56,12 +64,13 @@ def bytes_shown(word: str) -> int:
 
 
 def arguments(words: List[str]) -> argparse.Namespace:
-    parser = argparse.ArgumentParser("tmhost-weave", None, ABOUT, NOTES, formatter_class=argparse.RawDescriptionHelpFormatter)
+    parser = Parser("tmhost-weave", None, ABOUT, NOTES, formatter_class=argparse.RawDescriptionHelpFormatter)
     parser.add_argument("texts", metavar="TEXT", nargs="+")
     what = parser.add_mutually_exclusive_group()
     what.add_argument("--check", action="store_true", help="evaluate nothing, write nothing, and say what would change")
     what.add_argument("--test", action="store_true", help="evaluate all again, write nothing, and show which answers of TEXT are others now, as for a CI")
     what.add_argument("--watch", action="store_true", help="stay, and weave again whenever TEXT is saved, until Control-C; interpreters go on meanwhile")
+    parser.add_argument("--all", action="store_true", help="keep no answer, and evaluate all again, as a first weave does")
     parser.add_argument("--output", metavar="FILE", help="where the woven text goes, in place of TEXT (-: standard output)")
     parser.add_argument("--html", metavar="FILE", help="where a page of TEXT goes, which stands alone: a name that ends in .html, or a folder (FOLDER/, where a new one has a dot in its name)")
     parser.add_argument("--seconds", type=seconds, metavar="N", help="how long a field may take (no limit)")
@@ -73,6 +82,8 @@ def arguments(words: List[str]) -> argparse.Namespace:
     given = parser.parse_args(words)
     if given.test and given.output is not None:
         parser.error("--test writes nothing, so there is no --output for it")
+    if given.all and (given.check or given.test):
+        parser.error("--check evaluates nothing, and --test all in any case, so there is no --all for them")
     if given.html is not None and (given.check or given.test):
         parser.error("--check and --test write nothing, so there is no --html for them")
     if given.output is not None and len(given.texts) > 1:
@@ -92,7 +103,7 @@ def run(given: argparse.Namespace, text: str, watched: Optional[Watched]) -> boo
             with within(weave.start):
                 return weave.test(given.seconds)
     with locked(os.path.realpath(text)):
-        weave = Weave(text, given.output, no_errors=given.no_errors, longest=given.longest, page=given.html, texts=given.texts, watched=watched)
+        weave = Weave(text, given.output, no_errors=given.no_errors, longest=given.longest, page=given.html, texts=given.texts, watched=watched, renews=given.all)
         with within(weave.start):
             return weave.check() if given.check else weave.weave(given.seconds)
 
@@ -126,3 +137,20 @@ def main(words: List[str]) -> int:
     if len(given.texts) > 1:
         print(f"tmhost-weave: {summary(given.texts, failed)}", file=sys.stderr)
     return 1 if failed else 0
+
+
+def status_of(words: List[str]) -> int:
+    """The status of a call. One whose output can't be written hasn't succeeded."""
+    try:
+        try:
+            return main(words)
+        finally:
+            sys.stdout.flush()
+    except BrokenPipeError:
+        why = ""  # who reads it has seen enough
+    except OSError as error:
+        why = f"tmhost-weave: {plain(error)}\n"
+    # Python would try once more at its end.
+    os.dup2(os.open(os.devnull, os.O_WRONLY), sys.stdout.fileno())
+    print(why, end="", file=sys.stderr)
+    return 1

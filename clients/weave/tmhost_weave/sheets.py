@@ -8,7 +8,7 @@ from typing import Callable, Dict, List
 from tmhost import Died, Field, InUse, Refused, TmhostError, Worksheet, find_program
 from tmhost.advice import SECOND, advised, reason_of_end
 
-from .plan import MARK, Plan, Wanted
+from .plan import ENDED, MARK, Plan, Wanted
 from tmhost_fences.aside import UNREADABLE, sync
 from tmhost_fences.troubles import Trouble
 
@@ -60,13 +60,14 @@ def make_at(new: str, path: str) -> None:
         raise Trouble(f"{path} can't be made: {reason_of_end(said, made.returncode, path)}")
 
 
-def opened(path: str, say: Callable[[str], None]) -> Worksheet:
-    """The worksheet at a path. One that is in use is waited for, which is said. Where it can't be read, that is raised as it is."""
+def opened(path: str, say: Callable[[str], None], is_partial: bool) -> Worksheet:
+    """The worksheet at a path. One that is in use is waited for, which is said. Where it can't be read, that is raised as it is. `is_partial` is whether it is heard
+    what its interpreters write before an answer is whole."""
     began = time.monotonic()
     is_said = False
     while True:
         try:
-            sheet = Worksheet(path)
+            sheet = Worksheet(path, partial=is_partial)
             break
         except Died as died:
             if died.number in UNREADABLE:
@@ -114,7 +115,10 @@ def fit(sheet: Worksheet, plan: Plan) -> None:
     """Makes the fields those of the text, in its order. The answers that aren't kept go from the last one on, so that whatever a kill leaves
     of a session, its answers are those to the fields in front of them."""
     sheet.ensure_session(MARK.name, MARK.words)
-    for field in reversed(plan.left):
+    if any(wanted.fence.ends for wanted in plan.wanted):
+        sheet.ensure_session(ENDED.name, ENDED.words)
+    kept = plan.kept_notes
+    for field in [*reversed(plan.left), *(note for note in plan.all_notes if note.id not in kept)]:
         sheet.remove(field.id)
     spare = spares(sheet, plan)
     for name in plan.words:
@@ -171,8 +175,11 @@ def arrange(sheet: Worksheet, plan: Plan) -> None:
                 wanted.misfit = str(error)
                 continue
             order.insert(place, wanted.id)
-        elif order[place] != wanted.id:
-            sheet.move(wanted.id, after)
-            order.remove(wanted.id)
-            order.insert(place, wanted.id)
-        after, place = wanted.id, place + 1
+        for id in (wanted.id, wanted.note):
+            if id is None:
+                continue
+            if order[place] != id:
+                sheet.move(id, after)
+                order.remove(id)
+                order.insert(place, id)
+            after, place = id, place + 1

@@ -5,6 +5,7 @@ from typing import Dict, Iterable, List, Optional
 from tmhost_fences.targets import refuse_target
 from tmhost_fences.troubles import Trouble
 
+from .files import refuse_other_than_files
 from .sheets import sheet_path
 
 OPTION = "--html"
@@ -61,6 +62,7 @@ def place_of(given: str, page: str, kept: Iterable[str]) -> str:
     folder = os.path.dirname(place)
     if not is_page(given) and os.path.lexists(os.path.normpath(given)) and not os.path.isdir(given):
         raise Trouble(f"{OPTION}: {given} is no folder, and its name doesn't end in {SUFFIXES[0]}")
+    refuse_other_than_files(OPTION, place)
     if is_page(given) or os.path.isdir(folder):
         refuse_target(OPTION, place, kept)
     elif not os.path.isdir(os.path.dirname(folder)):

@@ -1,9 +1,13 @@
 """What is said of a text as a whole, of its sessions, and of fields without an answer."""
-from typing import List, Optional
+from typing import Iterator, List, Mapping, Optional
 
-from .document import Document
-from .evaluation import AT_CODE, AT_START
-from .plan import Wanted
+from tmhost import Field
+
+from .answers import PICTURE
+from .document import ENDS, Document
+from .formulas import parts_of
+from .lives import AT_CODE, AT_START
+from .plan import Plan, Wanted
 
 MOST_REPORTED = 5  # kinds of fences, in a message
 LONGEST_INFO = 40  # characters of what stands at one
@@ -21,9 +25,9 @@ def why_nothing(document: Document) -> str:
 def reason_of(wanted: Wanted) -> Optional[str]:
     """Why a field has no answer, with what isn't said in the text: where an interpreter ended."""
     if wanted.end == AT_CODE and wanted.ender is wanted:
-        return "no answer: this code ended its interpreter"
+        return f"no answer: its interpreter ended at this code (where that is meant: {{{ENDS}}} at its fence)"
     if wanted.end == AT_CODE and wanted.ender:
-        return f"not evaluated, since at the replay of line {wanted.ender.line} that code ended the interpreter"
+        return f"not evaluated, since the interpreter ended at the replay of line {wanted.ender.line}"
     return "no answer: its interpreter ended at its start" if wanted.end == AT_START and wanted.ender is wanted else wanted.failure
 
 
@@ -33,3 +37,33 @@ def later_ones(wanted: List[Wanted]) -> str:
     if len(wanted) == 1:
         return f"1 later field of {name} isn't evaluated (line {first})"
     return f"{len(wanted)} later fields of {name} aren't evaluated (lines {first} to {last})"
+
+
+def done_in(plan: Plan, replayed: Mapping[str, int], others: Mapping[str, int]) -> Iterator[str]:
+    """What was done in each session of a text, which has several in the worksheet where code ends its interpreter. `replayed` is how many fields of each of those were,
+    and `others` how many of these were answered otherwise than what is kept."""
+    for shown, names in plan.in_text.items():
+        of = [wanted for wanted in plan.wanted if wanted.session in names]
+        stale = [wanted for wanted in of if not wanted.is_kept and not wanted.is_skipped]
+        kept, done = sum(wanted.is_kept and not wanted.is_skipped for wanted in of), sum(wanted.is_answered for wanted in stale)
+        had = sum(plan.lost_answers(name) for name in names)
+        again, differing = (sum(counts.get(name, 0) for name in names) for counts in (replayed, others))
+        parts = [f"{kept} kept"] if kept else []
+        parts += [f"{done} evaluated" + " again" * (0 < done <= had)]
+        parts += [f"{len(stale) - done} without an answer"] if done < len(stale) else []
+        parts += [f"{again} replayed"] if again else []
+        if stale:
+            yield f"{shown}: {', '.join(parts)}"
+        if differing:
+            yield f"{shown}: {differing} kept answers aren't those of the replay; --all evaluates all again"
+
+
+def early(plan: Plan, fields: Mapping[int, Field]) -> Iterator[int]:
+    """The first line of each fence of Python that leaves a figure open, where others come after it: it is shown with that line, as far as it is drawn."""
+    reported = set()
+    for wanted, after in zip(plan.wanted, plan.wanted[1:]):
+        field = fields.get(wanted.id or 0)
+        is_inside = wanted.fence is after.fence and wanted.fence.language == "python" and "show(" not in wanted.input
+        if is_inside and wanted.fence.begin not in reported and field and field.answer and any(kind == PICTURE for _, kind in parts_of(field.answer.output) or ()):
+            reported.add(wanted.fence.begin)
+            yield wanted.line

@@ -11,7 +11,7 @@ from tmhost.advice import SECOND
 from .document import Document
 from .files import Stamp, read, stamp_of, text_of
 from .lives import Lives
-from .plan import Plan, Wanted
+from .plan import Plan, Wanted, with_lives
 from tmhost_fences.troubles import Trouble
 
 PAUSE = 0.3  # seconds between two looks at the files
@@ -33,6 +33,8 @@ class Watched:
         self._last: Dict[str, Stamp] = {}  # at the last look
         self._lives: Optional[Lives] = None
         self._identity: Tuple[object, ...] = ()
+        self.is_renewed = False  # whether a weave of it has begun to evaluate
+        self._is_partial = False  # whether it is heard there what interpreters write before an answer is whole
         self._saved: Tuple[Stamp, float, Optional[Document]] = None, 0.0, None  # what was saved while it is woven, and since when that is seen
 
     # ---- files
@@ -57,12 +59,14 @@ class Watched:
 
     # ---- the worksheet
 
-    def lives(self, path: str, opened: Callable[[], Worksheet]) -> Lives:
-        """The interpreters of the worksheet at a path. Where that is another one by now, or its program has ended, it is opened again."""
-        if self._lives is None or self._lives.sheet.error is not None or identity_of(path) != self._identity:
+    def lives(self, path: str, opened: Callable[[], Worksheet], is_partial: bool) -> Lives:
+        """The interpreters of the worksheet at a path. Where that is another one by now, or its program has ended, it is opened again. So it is where it is to be
+        heard what they write before an answer is whole, and wasn't."""
+        is_open = self._lives is not None and self._lives.sheet.error is None and identity_of(path) == self._identity
+        if self._lives is None or not is_open or is_partial > self._is_partial:
             self.close()
             self._lives = Lives(opened())
-            self._identity = identity_of(path)
+            self._identity, self._is_partial = identity_of(path), is_partial
         return self._lives
 
     def close(self) -> None:
@@ -92,16 +96,17 @@ def asks_for(document: Document, plan: Plan, wanted: Wanted) -> bool:
     name, is_pure = wanted.fence.session, wanted.fence.is_pure
     if document.sessions.get(name) != plan.words[wanted.session]:
         return False
-    inputs = [group.input for fence in document.fences if fence.session == name and fence.is_pure == is_pure for group in fence.groups]
+    fences = [fence for fence, life in with_lives(document.fences) if (fence.session, fence.is_pure, life) == (name, is_pure, wanted.life)]
+    inputs = [group.input for fence in fences for group in fence.groups]
     asked = [*(one.input for one in plan.before(wanted)), wanted.input]
     return wanted.input in inputs if is_pure else inputs[: len(asked)] == asked
 
 
 @contextlib.contextmanager
-def lives_of(watched: Optional[Watched], path: str, opened: Callable[[], Worksheet]) -> Iterator[Lives]:
+def lives_of(watched: Optional[Watched], path: str, opened: Callable[[], Worksheet], is_partial: bool) -> Iterator[Lives]:
     """The interpreters of a worksheet, which is closed at the end where nobody watches its text."""
     if watched:
-        yield watched.lives(path, opened)
+        yield watched.lives(path, opened, is_partial)
         return
     with opened() as sheet:
         yield Lives(sheet)

@@ -2,29 +2,30 @@
 import difflib
 import itertools
 import os
+import signal
 import sys
-from typing import Dict, Iterator, List, Optional, Sequence, Set
+from typing import Dict, List, Optional, Sequence, Set
 
 from tmhost import Died, Field, Session, Worksheet
 from tmhost.advice import SECOND, advised
 from tmhost.starting import doubt, never_answers, why_it_ends
 
-from .answers import ANSWER, FORMULA, NO_ANSWER, PICTURE, Piece, Shown
+from .answers import ANSWER, FORMULA, NO_ANSWER, Piece, Shown
 from .cutting import LONGEST, cut
 from .damage import refuse_others
 from .document import ERRORS_FAIL, ERRORS_WANTED, FOLD, HIDE, TEXTLESS, Document
-from .evaluation import AT_START, UNTRIED, Evaluator
-from .files import Changed, bytes_of, new_name, put, put_in_folder, read, text_of
-from .formulas import parts_of
+from .evaluation import NOT_ENDED, UNTRIED, Evaluator
+from .files import Changed, bytes_of, is_device, new_name, put, put_in_folder, read, read_other, refuse_other_than_files, text_of, write_to
 from .inline import codes_in, why_unevaluated
+from .lives import AT_START
 from .matter import Matter, matter_of
 from .page import Page
 from .pictures import Pictures
-from .pieces import pieces_of
+from .pieces import ENDED, piece_of, pieces_of
 from .plan import Plan, Wanted
 from .sheets import AGAIN, fit, has_no_space, make, opened, remove, sheet_path, shorten
 from .targets import page_of, pages_of, place_of
-from .telling import later_ones, reason_of, why_nothing
+from .telling import done_in, early, later_ones, reason_of, why_nothing
 from .unstarted import doubts, left, note_missing, said_of_left
 from .watching import Watched, lives_of
 from tmhost_fences.aside import fault_of, free_name, set_aside
@@ -54,13 +55,15 @@ def first_other_line(old: bytes, new: bytes) -> int:
 class Weave:
     """`output` is where the woven text goes: None for the text itself, "-" for standard output. `folder` is where the worksheet lies, if not beside the text.
     `no_errors` is whether an error is a failure where the options of its fence don't say; `longest` is how many bytes of an answer's text are shown. `page` is where a
-    page of it goes, a file or a folder, if anywhere, and `texts` are all those that get one by the same call. `watched` is what goes on after it, if anything."""
+    page of it goes, a file or a folder, if anywhere, and `texts` are all those that get one by the same call. `watched` is what goes on after it, if anything. `renews`
+    is whether all is evaluated again, of a text that is watched by the first weave."""
 
     def __init__(
         self, name: str, output: Optional[str], folder: Optional[str] = None, no_errors: bool = False, longest: int = LONGEST, page: Optional[str] = None,
-        texts: Sequence[str] = (), watched: Optional[Watched] = None,
+        texts: Sequence[str] = (), watched: Optional[Watched] = None, renews: bool = False,
     ) -> None:
         self.name, self.path, self.watched = name, os.path.realpath(name), watched
+        self.renews = renews and not (watched and watched.is_renewed)
         self.no_errors, self.longest = no_errors, longest
         self.target = None if output == "-" else self.path if output is None else os.path.realpath(output)
         self.sheet_path = sheet_path(os.path.join(folder, os.path.basename(self.path)) if folder else self.path)
@@ -68,7 +71,8 @@ class Weave:
         self.shows_progress = sys.stderr.isatty()
         if self.sheet_path == self.path:
             raise Trouble("the text has the name of its worksheet")
-        if self.target and self.target != self.path:
+        if self.target and self.target != self.path and not is_device(self.target):
+            refuse_other_than_files("--output", self.target)
             refuse_target("--output", self.target, (self.sheet_path, self.sheet_path + ".alt"))
         self.page = page_of(page, name) if page else None
         self.pages = pages_of(page, texts) if page else {}
@@ -135,16 +139,18 @@ class Weave:
                 self.say(f"broken off: {self.plan.answered} of {len(self.plan.wanted)} answered" + "; weave it again" * self.keeps)
             raise
         except Died as died:
-            if not self.plan or not has_no_space(self.sheet_path):
+            is_limited = died.status == -signal.SIGXFSZ
+            if not self.plan or not (is_limited or has_no_space(self.sheet_path)):
                 raise Trouble(advised(died, self.sheet_path, AGAIN)) from died
             kept, all = self.plan.answered, len(self.plan.wanted)
             are = "is" if kept == 1 else "are"
-            raise Trouble(f"no space left for {os.path.basename(self.sheet_path)}; {kept} of {all} answers {are} kept: make room and weave again") from died
+            why, what = ("the limit of the length of files (ulimit -f) leaves no room", "raise it") if is_limited else ("no space left", "make room")
+            raise Trouble(f"{why} for {os.path.basename(self.sheet_path)}; {kept} of {all} answers {are} kept: {what} and weave again") from died
 
     def opened_or_none(self, is_kept: bool) -> Optional[Worksheet]:
         """The worksheet, where there is one that can be read. Another one is set aside, but where all is kept as it is."""
         try:
-            return opened(self.sheet_path, self.say) if os.path.lexists(self.sheet_path) else None
+            return opened(self.sheet_path, self.say, not is_kept and self.document.has_ends) if os.path.lexists(self.sheet_path) else None
         except Died as died:
             refuse_others(died, self.sheet_path)
             cause = f"{os.path.basename(self.sheet_path)} can't be read ({fault_of(died, self.sheet_path)})"
@@ -159,14 +165,16 @@ class Weave:
         sheet = self.opened_or_none(False)
         if sheet is None:
             make(self.sheet_path)
-        return sheet or opened(self.sheet_path, self.say)
+        return sheet or opened(self.sheet_path, self.say, self.document.has_ends)
 
     def _evaluated(self, seconds: Optional[float]) -> Plan:
-        with lives_of(self.watched, self.sheet_path, self.opened_or_made) as lives:
+        with lives_of(self.watched, self.sheet_path, self.opened_or_made, self.document.has_ends) as lives:
             sheet = lives.sheet
-            self.plan = plan = Plan(self.document, sheet.sessions, sheet.fields, lives.all_answered)
+            self.plan = plan = Plan(self.document, sheet.sessions, sheet.fields, lives.all_answered, self.renews)
             fit(sheet, plan)
-            for why in doubts(plan):
+            if self.watched:
+                self.watched.is_renewed = True
+            for why in dict.fromkeys(doubts(plan)):
                 self.say(why)
             evaluator = Evaluator(lives, plan, seconds, self.begun, self.late, self.watched.is_outdated if self.watched else None)
             try:
@@ -179,23 +187,9 @@ class Weave:
                 shorten(sheet, self.sheet_path)
             if self.watched:
                 lives.end_all_but(plan.flowing)
-        for name in plan.words if self.keeps else ():
-            self.tell(name, plan, evaluator)
+        for text in done_in(plan, evaluator.replayed, evaluator.others) if self.keeps else ():
+            self.say(text)
         return plan
-
-    def tell(self, name: str, plan: Plan, evaluator: Evaluator) -> None:
-        """What was done in a session of the worksheet."""
-        stale, replayed, others = plan.stale(name), evaluator.replayed.get(name, 0), evaluator.others.get(name, 0)
-        shown, kept = plan.of(name)[0].session_in_text, len(plan.of(name)) - len(stale)
-        done = sum(wanted.is_answered for wanted in stale)
-        parts = [f"{kept} kept"] if kept else []
-        parts += [f"{done} evaluated" + " again" * (0 < done <= plan.lost_answers(name))]
-        parts += [f"{len(stale) - done} without an answer"] if done < len(stale) else []
-        parts += [f"{replayed} replayed"] if replayed else []
-        if stale:
-            self.say(f"{shown}: {', '.join(parts)}")
-        if others:
-            self.say(f"{shown}: {others} kept answers aren't those of the replay; to have all again, remove {self.sheet_path} and its .alt")
 
     def as_it_is(self) -> Plan:
         """Takes what the worksheet has, without a change of it."""
@@ -217,20 +211,28 @@ class Weave:
         failed = set()
         for wanted in plan.wanted:
             fence = wanted.fence
-            if wanted.failure and fence.begin not in failed:
+            if fence.begin not in failed and wanted.failure in (None, NOT_ENDED) and HIDE not in fence.flags and not wanted.is_skipped:
+                pieces[fence.begin] += self.answer_of(wanted)
+            if fence.begin not in failed and wanted.failure:
                 failed.add(fence.begin)
                 pieces[fence.begin].append(Piece(NO_ANSWER, wanted.failure))
-            elif fence.begin not in failed and HIDE not in fence.flags and wanted.id is not None:
-                found = pieces_of(self.fields[wanted.id], fence.is_in_container, self.pictures)
-                found = [piece for piece in found if not (TEXTLESS in fence.flags and piece.kind in (ANSWER, FORMULA))]
-                short, left_out = cut(found, self.longest)
-                pieces[fence.begin] += short
-                self.left_out.update({wanted.id: left_out} if left_out else {})
         staying = left(plan)
         for one in staying.values():
             self.pictures.leave(one)
         shown = [(fence, tuple(pieces[fence.begin])) for fence in self.document.fences]
         return [staying.get(fence.begin) or Shown(these, bool(these) and FOLD in fence.flags) for fence, these in shown]
+
+    def answer_of(self, wanted: Wanted) -> List[Piece]:
+        """What is shown of a field: its answer, and where it has ended its interpreter, what that wrote then, and that it has."""
+        if wanted.id is None:
+            return []
+        field = self.fields[wanted.id]
+        found = pieces_of(field, wanted.fence.is_in_container, self.pictures) if field.answer else []
+        found += [piece_of(wanted.said, ANSWER)] if wanted.said and wanted.said.strip() else []
+        found = [piece for piece in found if not (TEXTLESS in wanted.fence.flags and piece.kind in (ANSWER, FORMULA))]
+        short, left_out = cut(found, self.longest)
+        self.left_out.update({wanted.id: left_out} if left_out else {})
+        return [*short, ENDED] if wanted.said is not None else short
 
     def woven(self, plan: Plan) -> bytes:
         return bytes_of(self.document.checked(self.shown(plan)))
@@ -242,10 +244,13 @@ class Weave:
             sys.stdout.buffer.write(woven)
             sys.stdout.buffer.flush()
             return
+        if is_device(self.target):
+            write_to(self.target, woven)
+            return
         remove(new_name(self.target))
         if self.target == self.path:
             self.write_over(woven)
-        elif not os.path.exists(self.target) or read(self.target) != woven:
+        elif read_other(self.target) != woven:
             put(self.target, woven)
         self.pictures.remove_others()
 
@@ -296,7 +301,7 @@ class Weave:
             self.say(text)
         self.tell_errors(plan)
         self.tell_left_out(plan)
-        for line in self.early(plan):
+        for line in early(plan, self.fields):
             self.say(f"line {line}: its figure is shown before the lines after it draw: {{whole}} at the fence, or `fences: whole` in the front matter, makes them one field")
         return not failures and not self.document.is_doubtful and not self.fails(plan)
 
@@ -346,16 +351,6 @@ class Weave:
         field = None if wanted.failure or wanted.id is None else self.fields.get(wanted.id)
         return bool(field and field.answer and field.answer.errors)
 
-    def early(self, plan: Plan) -> Iterator[int]:
-        """The first line of each fence of Python that leaves a figure open, where others come after it: it is shown with that line, as far as it is drawn."""
-        reported = set()
-        for wanted, after in zip(plan.wanted, plan.wanted[1:]):
-            field = self.fields.get(wanted.id or 0)
-            is_inside = wanted.fence is after.fence and wanted.fence.language == "python" and "show(" not in wanted.input
-            if is_inside and wanted.fence.begin not in reported and field and field.answer and any(kind == PICTURE for _, kind in parts_of(field.answer.output) or ()):
-                reported.add(wanted.fence.begin)
-                yield wanted.line
-
     def test(self, seconds: Optional[float]) -> bool:
         """Whether all is answered, and as the text shows it. The worksheet is one that nobody keeps, and nothing is written."""
         plan = self.evaluated(seconds)
@@ -381,7 +376,7 @@ class Weave:
         if plan.is_stale:
             return False
         woven = self.woven(plan)
-        old = read(self.target) if self.target and os.path.exists(self.target) else b""
+        old = (read_other(self.target) if self.target else None) or b""
         if woven != old:
             print(f"{self.name}: nothing would be evaluated, and the text would change from line {first_other_line(old, woven)} on")
         for name in self.pictures.missing():
