@@ -20,6 +20,7 @@ KINDS = {
     ".woff2": "font/woff2",
     ".ttf": "font/ttf",
 }
+LEAST = 10_000  # bytes of a library; a shorter file is one for Node that only names another, as Debian 12's node-markdown-it has it
 FONT = re.compile(r"katex/fonts/(KaTeX_[A-Za-z0-9_-]+\.(?:woff2|ttf))")
 
 
@@ -45,7 +46,7 @@ class Files:
         self._add("markdown-it.js", [os.path.join(share, name) for name in MARKDOWN])
 
     def _add(self, name: str, paths: Iterable[str]) -> None:
-        found = first_there(paths)
+        found = first_there(path for path in paths if os.path.isfile(path) and os.path.getsize(path) >= LEAST)
         if found:
             self.files[name] = found
 

@@ -26,7 +26,8 @@ Where KaTeX or markdown-it can't be started the page is written all the same, as
 `;
 const USAGE = HELP.split("\n")[0];
 const KATEX = ["/usr/share/nodejs/katex/dist/katex.js", "/usr/share/javascript/katex/katex.js"];
-const MARKDOWN = ["/usr/share/javascript/markdown-it/markdown-it.js", "/usr/share/nodejs/markdown-it/dist/markdown-it.js"]; // some of the second kind name a file that isn't there
+const MARKDOWN = ["/usr/share/javascript/markdown-it/markdown-it.js", "/usr/share/nodejs/markdown-it/dist/markdown-it.js"];
+const LEAST = 10_000; // bytes of a library; a shorter file only names another, which isn't there, as Debian 12's node-markdown-it has it
 const PROSE = /^prose(-\d{1,6})?$/; // as tmhost-notebook and tmhost-import name its sessions
 const SECONDS = "60";
 const SHOWN = 60; // characters of a formula in a report
@@ -83,7 +84,7 @@ function meansOf({ katex, "markdown-it": markdown, prose, "no-prose": isNone }) 
  * @type {(given: string | undefined, files: string[]) => string}
  */
 function fileOf(given, files) {
-  return path.resolve(given ?? files.find((name) => fs.existsSync(name)) ?? files[0]);
+  return path.resolve(given ?? files.find((name) => fs.existsSync(name) && fs.statSync(name).size >= LEAST) ?? files[0]);
 }
 
 /** @type {(file: string | null) => Promise<Buffer>} */
