@@ -74,8 +74,14 @@ EXPANDED: set[Key] = {
     ("driver_visits.Runs", "OpensCrashed"),
     ("driver_visits.Runs", "OpensAfterCrash"),
     ("driver_visits.Runs", "RunsThenCrashes"),
-    ("driver_visits.Printed", "IsPart"),
-    ("driver_visits.Printed", "AreOf"),
+    ("driver_visits.Tried", "tried_at"),
+    ("driver_visits.Tried", "StepBroke"),
+    ("driver_visits.Tried", "TriedLast"),
+    ("driver_visits.Printed", "InOrder"),
+    ("driver_visits.Printed", "Reportable"),
+    ("driver_visits.Printed", "in_report"),
+    ("driver_visits.Printed", "to_report"),
+    ("driver_visits.Printed", "was_reported"),
     ("driver_visits.Printed", "IsReportOf"),
     ("driver_visits.Copied", "RanOnCopy"),
     ("driver_visits.Copied", "world_at_first"),
@@ -83,6 +89,7 @@ EXPANDED: set[Key] = {
     ("driver_visits.Copied", "place_at_last"),
     ("driver_visits.Copied", "field_trace"),
     ("driver_visits.Copied", "fields_trace"),
+    ("driver_visits.Copied", "run_trace"),
     ("driver_visits.Copied", "EvaluatedOnCopy"),
     ("driver_visits.Copied", "AnsweredOnCopy"),
     ("driver_visits.Copied", "PutFromCopy"),
@@ -105,8 +112,6 @@ EXPANDED: set[Key] = {
 # Sentences above definitions that lean on what their file has before them, or say more than the definition: words as they are, and those that
 # the page has for them. A sentence without such words stands as it is.
 REWORDED: dict[Key, tuple[str, str]] = {
-    ("theorem.Acts", "PutsAnswer"): ("it puts", "the op puts"),
-    ("theorem.Acts", "AreAnswers"): ("each of them does", "each of these ops puts an answer into a field"),
     ("host_laws.Laws", "may_want"): ("refused so", "refused for lack of memory"),
     ("session_engine.Host", "number_in"): ("its number", "the number of the life of a session that a host runs"),
     ("recovery.Laws", "OneSheet"): ("and is that", "An image is that"),

@@ -29,6 +29,7 @@ LAMBDA = re.compile(r"λ ([\w' ]+)\.")
 FIELD = re.compile(r"\s+(?:pub(?:\(\w+\))? )?([\w']+)\s?:")
 VARIANT = re.compile(r"    [A-Z]\w*(?=\s?[,({])")
 GENERIC = re.compile(r"pub\S* (?:struct|enum) \w+<(\w+)")
+NAMED = re.compile(r"\{[\w']+ = ([\w']+)\}")  # an argument of a pattern, by its name
 LABEL = re.compile(r"(?:[{;] |^\s+)([\w']+) =(?= |$)")
 STRING = re.compile(r'"(?:[^"\\]|\\.)*"')
 
@@ -254,7 +255,7 @@ class Sources:
             groups = BINDERS.findall(line) + LAMBDA.findall(line) + GENERIC.findall(line)
             names.update(word for group in groups for word in re.findall(r"[\w']+", group))
             names.update([field[1]] if (field := FIELD.match(line)) else [])
-            left, equals, _ = (line + " ").partition(" = ")
+            left, equals, _ = (NAMED.sub(r"\1", line) + " ").partition(" = ")
             if equals and left.split(" ")[0] == definition.key[1]:
                 names.update(word for word in WORD.findall(left) if not self.is_constructor(definition.scope, word))
         return names

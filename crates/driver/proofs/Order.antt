@@ -109,12 +109,13 @@ pub record PrintedThere {A C K : Type 0} (R : Rules A C K) (p q : RunPlace A C K
   pub sink : K
   pub tries : Tries R.sink there.sink there.disk (printed_text R.sink.voice there.world s) true sink
   pub then_to_do : List Item
+  pub goes : Goes R there to_do (printed s) then_to_do (record there { sink = sink })
   pub goes_on : Run R (record there { sink = sink }) then_to_do after left q
 
 pub printed_there : {A C K : Type 0} (R : Rules A C K) (p q : RunPlace A C K) (todo left : List Item) (before after : List RunStep) (s : Report)
     → Run R p todo (before ++ printed s ∷ after) left q → PrintedThere R p q todo left before after s
 printed_there R p q todo left [] after s (next, mid, prints x k rest tries, more) =
-    record { there = p; to_do = todo; ran = (refl, refl); course = no_step p.world p.disk; sink = k; tries = tries; then_to_do = next; goes_on = more }
+    record { there = p; to_do = todo; ran = (refl, refl); course = no_step p.world p.disk; sink = k; tries = tries; then_to_do = next; goes = prints x k rest tries; goes_on = more }
 printed_there R p q todo left (x ∷ before) after s (next, mid, goes, more) = by (printed_there R mid q next left before after s more) (step_course R p mid todo next x goes)
   where
     by : PrintedThere R mid q next left before after s → (Course p.world p.disk (entries_of x) mid.world mid.disk ⊎ Broke R p x next mid) → PrintedThere R p q todo left (x ∷ before) after s
@@ -126,6 +127,7 @@ printed_there R p q todo left (x ∷ before) after s (next, mid, goes, more) = b
       sink = so.sink;
       tries = so.tries;
       then_to_do = so.then_to_do;
+      goes = so.goes;
       goes_on = so.goes_on;
     }
     by so (inr b) = absurd (no_words R mid q b.why next left before after s b.left more)

@@ -8,11 +8,13 @@ use Rattle.std.proofs.Math.Nat.{le_refl}
 use Rattle.disk_model.specs.Disk.{DiskView, Image, bytes_on}
 use Rattle.disk_model.specs.inside.Moments.{started, weakens}
 use Rattle.worksheet.specs.declared.op.Op.{Op}
-use Rattle.worksheet.specs.declared.field.Answer.{Answer}
 use Rattle.worksheet.specs.Contents.{Contents}
 use Rattle.worksheet.specs.Ops.{sheet_of}
 use Rattle.recovery.specs.Sheets.{IsEither, IsSheetImage}
-use Rattle.theorem.specs.Acts.{AreAnswers, HasFirst, PutsAnswer}
+use Rattle.host_events.specs.declared.event.Event.{Event}
+use Rattle.child_edge.specs.Moments.{events_of}
+use Rattle.theorem.specs.Acts.{HasFirst}
+use Rattle.theorem.specs.Copies.{IsEvaluating, PutIn, PutsWhole, put_from}
 use Rattle.host_events.specs.declared.outcome.HostFault.TheVariants as hosts
 use Rattle.offline_programs.specs.declared.fault.RunFault.{RunFault}
 use Rattle.offline_programs.specs.declared.fault.RunFault.TheVariants as fault
@@ -21,7 +23,7 @@ use Rattle.check_report.specs.declared.report.ReportFormat.TheVariants as format
 use Rattle.check_report.specs.declared.verdict.VerdictCounts.{VerdictCounts}
 use Rattle.check_report.specs.Reports.{Case, report_front}
 use Rattle.sheet_check.specs.Accept as ends
-use Rattle.sheet_check.specs.Accept.{AcceptAnswer, AcceptLeft, Acceptance, FiledAll, FiledBut, FoundOn, SheetAccepts, acceptance, accepted, accepted_answer, accepted_of, answer_ops, filing, opened, to_accept, unopened}
+use Rattle.sheet_check.specs.Accept.{AcceptAnswer, AcceptLeft, Acceptance, FiledAll, FiledBut, FoundOn, SheetAccepts, acceptance, accepted, accepted_of, filing, opened, to_accept, unopened}
 use Rattle.sheet_check.specs.Check.{Passage, passage}
 use Rattle.sheet_check.specs.Evaluated.{OneByOne, Way}
 use Rattle.sheet_check.specs.Kept.{IsAmong}
@@ -29,29 +31,13 @@ use Rattle.sheet_check.specs.Named.{ByNames, all_named, answer_as, missing_named
 use Rattle.sheet_check.specs.declared.named.CheckFault.{CheckFault}
 use Rattle.sheet_check.specs.declared.named.CheckFault.TheVariants as checks
 use Rattle.driver_visits.specs.Acceptances.{FromCopy, LeftByAcceptance, ReportedAcceptance, only_read, put_in}
-use Rattle.driver_visits.specs.Copied.{AnsweredOnCopy, PutFromCopy, RanOnCopy, all_fields, broke_off, first_fields}
-use Rattle.driver_visits.proofs.Copying.{ran_whole}
+use Rattle.driver_visits.specs.Copied.{AnsweredOnCopy, PutFromCopy, RanOnCopy, all_fields, broke_off, first_fields, run_trace}
+use Rattle.driver_visits.proofs.Copying.{ran_whole, run_evaluates, whole_by}
 
--- ops that put answers, after each other
-answers_joined : (first others : List Op) → AreAnswers first → AreAnswers others → AreAnswers (first ++ others)
-answers_joined [] others a b = b
-answers_joined (o ∷ first) others a b = (a.0, answers_joined first others a.1 b)
-
--- what is accepted of a field is an answer, where there is one
-of_answer : (id : ℕ) (answer : Option Answer) → AreAnswers (answer_ops id answer)
-of_answer id None = tt
-of_answer id (Some answer) = (tt, tt)
-
-of_case : (c : Case) → AreAnswers (accepted_of c)
-of_case c = of_answer c.field.id (accepted_answer c.came c.verdict)
-
--- so is what is accepted of fields
-are_answers : (cases : List Case) → AreAnswers (accepted cases)
-are_answers [] = tt
-are_answers (c ∷ cases) = answers_joined (accepted_of c) (accepted cases) (of_case c) (are_answers cases)
-
-one_answer : (last : Case) (one : Op) → accepted_of last ≡ one ∷ [] → PutsAnswer one
-one_answer last one taken = (subst AreAnswers taken (of_case last)).0
+-- what is so of each
+all_so : (P Q : Op → Type 0) → ((put : Op) → P put → Q put) → (ops : List Op) → AllByRecursion P ops → AllByRecursion Q ops
+all_so P Q so [] all = tt
+all_so P Q so (o ∷ ops) all = (so o all.0, all_so P Q so ops all.1)
 
 -- some of the first of these ops are on an image
 among_first : (ops put : List Op) (i : Image) → IsAmong ops put i → HasFirst ops put [] i
@@ -93,7 +79,17 @@ module _ (held : Option (List ℕ) → DiskView → Type 0) (disk back : DiskVie
 
   -- what these cases gave came from a copy
   abbrev Whole : List Case → List Op → Type 0
-  Whole cases put = FromCopy o (sheet_of ops) q cases put
+  Whole cases put = (given : List Event) × FromCopy o (sheet_of ops) q cases (put_from given put)
+
+  whole-answers : (cases : List Case) (given : List Event) (put : List Op) → FromCopy o (sheet_of ops) q cases (put_from given put) → AllByRecursion (PutsWhole (sheet_of ops) given) put
+  whole-answers cases given put (inl none) = subst (AllByRecursion (PutsWhole (sheet_of ops) given)) (sym (ap (λ (p : PutIn). p.ops) none.0)) tt
+  whole-answers cases given put (inr (all, more, from, are)) =
+      subst (λ (es : List Event). AllByRecursion (PutsWhole (sheet_of ops) es) put) (sym are)
+      (all_so (AnsweredOnCopy o (sheet_of ops) q all from.run) (PutsWhole (sheet_of ops) (events_of (run_trace from.run))) (whole_by o (sheet_of ops) q all from.run) put from.whole)
+
+  only-evaluating : (cases : List Case) (given : List Event) (put : List Op) → FromCopy o (sheet_of ops) q cases (put_from given put) → AllByRecursion IsEvaluating given
+  only-evaluating cases given put (inl none) = subst (AllByRecursion IsEvaluating) (sym (ap (λ (p : PutIn). p.given) none.0)) tt
+  only-evaluating cases given put (inr (all, more, from, are)) = subst (AllByRecursion IsEvaluating) (sym are) (run_evaluates o (sheet_of ops) q all from.run)
 
   found-on : IsSheetImage (sheet_of ops) (bytes_on disk)
   found-on = subst (λ (s : Contents). IsSheetImage s (bytes_on disk)) found.is (found.found model)
@@ -104,11 +100,12 @@ module _ (held : Option (List ℕ) → DiskView → Type 0) (disk back : DiskVie
       let here : (i : Image) → IsSheetImage sheet i → HasFirst ops [] [] i = λ i image. all_first ops [] i
       (subst (λ (s : Contents). IsSheetImage s i) (found.is ∙ ap sheet_of (sym (append-nil ops))) image) in
       subst (λ (d : DiskView). LeftByAcceptance o q (acceptance held disk d) answer []) (sym is)
-      (put_in ops []
+      (put_in ops (put_from [] [])
       (record {
         keeps_model = model;
         read = refl;
         found = found-on;
+        evaluating = tt;
         answers = tt;
         from = tt;
         now = now;
@@ -125,12 +122,13 @@ module _ (held : Option (List ℕ) → DiskView → Type 0) (disk back : DiskVie
   all-left : (answer : Result VerdictCounts CheckFault) (cases : List Case) → FiledAll (filing held ops now back) text cases → Whole cases (accepted cases) → Left answer cases
   all-left answer cases filed whole =
       let holds = filed.0 in
-      put_in ops (accepted cases)
+      put_in ops (put_from whole.0 (accepted cases))
       (record {
         keeps_model = model;
         read = refl;
         found = found-on;
-        answers = are_answers cases;
+        evaluating = only-evaluating cases whole.0 (accepted cases) whole.1;
+        answers = whole-answers cases whole.0 (accepted cases) whole.1;
         from = holds.from;
         now = now;
         same = found.same;
@@ -141,19 +139,20 @@ module _ (held : Option (List ℕ) → DiskView → Type 0) (disk back : DiskVie
       (inl refl)
       (λ keeps i image. all_first ops (accepted cases) i (holds.holds keeps i image))
       filed.1
-      whole
+      whole.1
 
-  but-left : (answer : Result VerdictCounts CheckFault) (cases : List Case) (one : Op) → PutsAnswer one → answer ≡ Err (checks.Run (fault.Host hosts.Disk)) → FiledBut (filing held ops now back) text cases one
+  but-left : (answer : Result VerdictCounts CheckFault) (cases : List Case) (one : Op) → answer ≡ Err (checks.Run (fault.Host hosts.Disk)) → FiledBut (filing held ops now back) text cases one
       → Whole cases (accepted cases ++ one ∷ []) → Left answer cases
-  but-left answer cases one is_one failed filed whole =
+  but-left answer cases one failed filed whole =
       let put = accepted cases in
       let holds = filed.0 in
-      put_in ops (put ++ one ∷ [])
+      put_in ops (put_from whole.0 (put ++ one ∷ []))
       (record {
         keeps_model = model;
         read = refl;
         found = found-on;
-        answers = answers_joined put (one ∷ []) (are_answers cases) (is_one, tt);
+        evaluating = only-evaluating cases whole.0 (put ++ one ∷ []) whole.1;
+        answers = whole-answers cases whole.0 (put ++ one ∷ []) whole.1;
         from = holds.from;
         now = now;
         same = found.same;
@@ -164,31 +163,36 @@ module _ (held : Option (List ℕ) → DiskView → Type 0) (disk back : DiskVie
       (inr (failed, one, refl))
       (λ keeps i image. but_first ops put one i (holds.holds keeps i image))
       filed.1
-      whole
+      whole.1
 
   -- the first of what is accepted of fields that were evaluated on a copy
-  came-from : (all : List Case) (run : RanOnCopy o sheet q all) (put rest : List Op) → accepted all ≡ put ++ rest → PutFromCopy o (sheet_of ops) q all put
+  came-from : (all : List Case) (run : RanOnCopy o sheet q all) (put rest : List Op) → accepted all ≡ put ++ rest
+      → (given : List Event) × (from : PutFromCopy o (sheet_of ops) q all put) × (given ≡ events_of (run_trace from.run))
   came-from all run put rest is =
-      subst (λ (s : Contents). PutFromCopy o s q all put) found.is
-      (record { run = run; rest = rest; puts = is; whole = front_of (AnsweredOnCopy o sheet q all run) put rest (subst (AllByRecursion (AnsweredOnCopy o sheet q all run)) is (ran_whole o sheet q all run)) })
+      subst (λ (s : Contents). (given : List Event) × (from : PutFromCopy o s q all put) × (given ≡ events_of (run_trace from.run))) found.is (
+        events_of (run_trace run),
+        record { run = run; rest = rest; puts = is; whole = front_of (AnsweredOnCopy o sheet q all run) put rest (subst (AllByRecursion (AnsweredOnCopy o sheet q all run)) is (ran_whole o sheet q all run)) },
+        refl,
+      )
 
   -- all of it
   all-of : (cases : List Case) → RanOnCopy o sheet q cases → Whole cases (accepted cases)
-  all-of cases run = inr (cases, inl refl, came-from cases run (accepted cases) [] (sym (append-nil (accepted cases))))
+  all-of cases run =
+      let c = came-from cases run (accepted cases) [] (sym (append-nil (accepted cases))) in
+      (c.0, inr (cases, inl refl, c.1, c.2))
 
   -- that of the last one, too, which wasn't reported
   with-last : (cases : List Case) (last : Case) (one : Op) → accepted_of last ≡ one ∷ [] → RanOnCopy o sheet q (cases ++ last ∷ []) → Whole cases (accepted cases ++ one ∷ [])
-  with-last cases last one taken run = inr (
-    cases ++ last ∷ [],
-    inr (last, refl),
-    came-from (cases ++ last ∷ []) run (accepted cases ++ one ∷ []) []
-        (flat_map-append accepted_of cases (last ∷ []) ∙ ap (λ (l : List Op). accepted cases ++ l) (append-nil (accepted_of last) ∙ taken) ∙ sym (append-nil (accepted cases ++ one ∷ []))),
-  )
+  with-last cases last one taken run =
+      let c = came-from (cases ++ last ∷ []) run (accepted cases ++ one ∷ []) []
+      (flat_map-append accepted_of cases (last ∷ []) ∙ ap (λ (l : List Op). accepted cases ++ l) (append-nil (accepted_of last) ∙ taken) ∙ sym (append-nil (accepted cases ++ one ∷ []))) in
+      (c.0, inr (cases ++ last ∷ [], inr (last, refl), c.1, c.2))
 
   -- but that of the last one, which didn't fit
   but-last : (cases : List Case) (last : Case) → RanOnCopy o sheet q (cases ++ last ∷ []) → Whole cases (accepted cases)
   but-last cases last run =
-      inr (cases ++ last ∷ [], inr (last, refl), came-from (cases ++ last ∷ []) run (accepted cases) (accepted (last ∷ [])) (flat_map-append accepted_of cases (last ∷ [])))
+      let c = came-from (cases ++ last ∷ []) run (accepted cases) (accepted (last ∷ [])) (flat_map-append accepted_of cases (last ∷ [])) in
+      (c.0, inr (cases ++ last ∷ [], inr (last, refl), c.1, c.2))
 
   abbrev Reported : Result VerdictCounts CheckFault → Type 0
   Reported = ReportedAcceptance o q x
@@ -218,7 +222,7 @@ module _ (held : Option (List ℕ) → DiskView → Type 0) (disk back : DiskVie
       wrote-front cases (checks.Run why) wrote (all-left (Err (checks.Run why)) cases holds (but-last cases last (first_fields led)))
   broke-off why (ends.broken cases last one is led taken wrote holds) =
       wrote-front cases (checks.Run why) wrote
-      (but-left (Err (checks.Run why)) cases one (one_answer last one taken) (ap (λ (x : RunFault). Err (checks.Run x)) is) holds (with-last cases last one taken (first_fields led)))
+      (but-left (Err (checks.Run why)) cases one (ap (λ (x : RunFault). Err (checks.Run x)) is) holds (with-last cases last one taken (first_fields led)))
   broke-off why (ends.unwritten cases last is led holds) = unreported (cases ++ last ∷ []) why is holds (all-of (cases ++ last ∷ []) (first_fields led))
   broke-off why (ends.uncounted cases is led all holds) = unreported cases why is holds (all-of cases (first_fields led))
 
@@ -230,7 +234,7 @@ module _ (held : Option (List ℕ) → DiskView → Type 0) (disk back : DiskVie
     counted = checked.counted;
     left = all-left (Ok counts) checked.cases holds (all-of checked.cases (all_fields checked));
   }
-  came nothing unwritten (Err why) (inl (is, none, holds)) = wrote-front [] (checks.Run why) (unwritten none) (all-left (Err (checks.Run why)) [] holds (inl (refl, refl)))
+  came nothing unwritten (Err why) (inl (is, none, holds)) = wrote-front [] (checks.Run why) (unwritten none) (all-left (Err (checks.Run why)) [] holds ([], inl (refl, refl)))
   came nothing unwritten (Err why) (inr left) = broke-off why left
 
   pub named : (nothing : Type 0) → (nothing → Appends text b []) → (missing : Option ℕ) (answer : Result VerdictCounts CheckFault)

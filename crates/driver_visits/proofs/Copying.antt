@@ -3,6 +3,7 @@ use Rattle.std.proofs.Common.{◌≡◌, ◌⊎◌, ◌∙◌, ⊎_elim, ℕ, Bo
 use Rattle.std.specs.Prelude.{◌==◌}
 use Rattle.std.specs.List.{AllByRecursion}
 use Rattle.std.specs.Option.{option_map_or}
+use Rattle.std.proofs.Math.Path.{path_j, subst_refl}
 use Rattle.std.proofs.lemmas.Bool.Decides.{nat_tests}
 use Rattle.std.proofs.lemmas.Grind.{flat_map-append}
 use Rattle.worksheet.specs.declared.op.Op.{Op}
@@ -19,7 +20,7 @@ use Rattle.host_events.specs.declared.outcome.Outcome.{Outcome}
 use Rattle.session_engine.specs.World.{World, sheet_in, world_at_opening}
 use Rattle.session_engine.specs.Does.{Runs}
 use Rattle.host_laws.specs.Turns.{AnsweredIn, Has, HostStep, KeepField, StepsOf}
-use Rattle.host_laws.proofs.FieldLaws.{HasInput}
+use Rattle.host_laws.proofs.FieldLaws.{HasItsLine}
 use Rattle.host_laws.proofs.Going.{shown_by_host, sound}
 use Rattle.child_edge.specs.Faithful.{At, Entry}
 use Rattle.child_edge.specs.Moments.{events_of, outcomes_of}
@@ -40,8 +41,9 @@ use Rattle.sheet_check.specs.Marks.{mark_rules}
 use Rattle.sheet_check.specs.Evaluated.{OneByOne, came_if, reason_shown_in, shown_in}
 use Rattle.sheet_check.specs.Fields.{FieldChecked, FieldsChecked, checked, comes_by, passed}
 use Rattle.sheet_check.proofs.Fields.{fields-more}
-use Rattle.driver_visits.proofs.Evaluating.{AreOfEvals, entries_joined, inputs_stay, of_fields}
-use Rattle.driver_visits.specs.Copied.{AnsweredOnCopy, EvaluatedOnCopy, RanOnCopy, all_fields, broke_off, field_trace, fields_trace, first_fields, place_at_first, place_at_last, world_at_first}
+use Rattle.theorem.specs.Copies.{IsEvaluating, PutsWhole}
+use Rattle.driver_visits.proofs.Evaluating.{AreOfEvals, entries_joined, lines_stay, of_fields}
+use Rattle.driver_visits.specs.Copied.{AnsweredOnCopy, EvaluatedOnCopy, RanOnCopy, all_fields, broke_off, field_trace, fields_trace, first_fields, place_at_first, place_at_last, run_trace, world_at_first}
 
 -- Evaluations lead from world to world.
 
@@ -78,6 +80,23 @@ fields_lead o [] s cases t c = ap (λ (x : At _). x.world) c.1
 fields_lead o (field ∷ fields) s cases t c =
     leads_on s.world (field_trace o field s c.1 c.0 c.3) c.0.world (fields_trace o fields c.0 c.2 t c.4) t.world
     (field_leads o field s c.1 c.0 c.3) (fields_lead o fields c.0 c.2 t c.4)
+
+-- The trace of one field more.
+
+trace_moved : {C : Type 0} (o : OneByOne C) (field : Field) (cases : List Case) (t mid s : At C) (is : mid ≡ s) (p : FieldChecked o.way o.chosen field mid cases t)
+    → field_trace o field s cases t (subst (λ (m : At C). FieldChecked o.way o.chosen field m cases t) is p) ≡ field_trace o field mid cases t p
+trace_moved {C = C} o field cases t mid s is p =
+    path_j (λ (m : At C) (e : mid ≡ m). field_trace o field m cases t (subst (λ (n : At C). FieldChecked o.way o.chosen field n cases t) e p) ≡ field_trace o field mid cases t p)
+    (ap (field_trace o field mid cases t) (subst_refl (λ (n : At C). FieldChecked o.way o.chosen field n cases t) p)) is
+
+trace_more : {C : Type 0} (o : OneByOne C) (gone : List Field) (field : Field) (s : At C) (cases : List Case) (mid : At C) (more : List Case) (t : At C)
+    → (h : FieldsChecked o.way o.chosen gone s cases mid) (p : FieldChecked o.way o.chosen field mid more t)
+    → fields_trace o (gone ++ field ∷ []) s (cases ++ more) t (fields-more o gone field s cases mid more t h p) ≡ fields_trace o gone s cases mid h ++ field_trace o field mid more t p
+unfolding fields-more
+trace_more o [] field s cases mid more t h p = append-nil (field_trace o field s more t (subst (λ (m : At _). FieldChecked o.way o.chosen field m more t) h.1 p)) ∙ trace_moved o field more t mid s h.1 p
+trace_more o (x ∷ xs) field s cases mid more t h p =
+    ap (λ (l : List Entry). field_trace o x s h.1 h.0 h.3 ++ l) (trace_more o xs field h.0 h.2 mid more t h.4 p)
+    ∙ sym (append_assoc (field_trace o x s h.1 h.0 h.3) (fields_trace o xs h.0 h.2 mid h.4) (field_trace o field mid more t p))
 
 -- A field of a worksheet is the one with its number.
 
@@ -145,9 +164,52 @@ module _ {C : Type 0} (o : OneByOne C) (sheet : Contents) (q : Passage C) (all :
   abbrev OnCopy : Op → Type 0
   OnCopy = AnsweredOnCopy o sheet q all run
 
+  same_sheet : sheet_of copied.opened.ops ≡ sheet
+  same_sheet = ap sheet_in (sym copied.opened.is) ∙ copied.has
+
+  apart : AreApart (numbers sheet.fields)
+  apart = subst (λ (s : Contents). AreApart (numbers s.fields)) same_sheet (sound_of copied.opened.ops copied.opened.allowed).apart
+
+  field_at : (gone : List Field) (field : Field) (left : List Field) → sheet.fields ≡ gone ++ field ∷ left → field_in sheet.fields field.id ≡ Some field
+  field_at gone field left split = subst (λ (fs : List Field). AreApart (numbers fs) → field_in fs field.id ≡ Some field) (sym split) (finds_it gone field left) apart
+
+  -- an answer that came so is a whole one, of the theorem's words
+  whole_answer : (put : Op) → OnCopy put → PutsWhole sheet (events_of (run_trace run)) put
+  whole_answer put a =
+      let c = a.on_copy in
+      let field = a.one.field in record {
+        field = field;
+        has = field_at c.gone field (c.left ++ c.others) c.split;
+        answer = a.answer;
+        puts = a.puts;
+        whole = record {
+          host = record {
+            copied = copied.opened.ops;
+            allowed = copied.opened.allowed;
+            same = same_sheet;
+            room = copied.made.room;
+            end = copied.opened.end;
+            events = events_of c.entries;
+            later = events_of c.following;
+            split = ap events_of c.first ∙ events_append c.entries c.following;
+            outcomes = outcomes_of c.entries;
+            steps = c.steps;
+            leads = c.there.world;
+            led = subst (λ (w : World). StepsOf w (events_of c.entries) (outcomes_of c.entries) c.steps c.there.world) copied.opened.is c.led;
+          };
+          shown = a.shown;
+          number = a.number;
+          session = a.session;
+          input = a.input;
+          shows = a.shows;
+          answered = a.answered;
+        };
+      }
+
   -- where a field was evaluated after those before it, it was there so when the copy was opened, or a step closed its answer
   module _ (gone : List Field) (before : List Case) (mid : At C) (earlier : FieldsChecked o.way o.chosen gone first before mid) (one : Case) (left others : List Field) (split : sheet.fields ≡ gone ++ (one.field ∷ (left ++ others)))
-      (there : At C) (evaluated : FieldChecked o.way o.chosen one.field mid (one ∷ []) there) (after : List Case) (cases : all ≡ before ++ one ∷ after) (later : FieldsChecked o.way o.chosen left there after (place_at_last run)) where
+      (there : At C) (evaluated : FieldChecked o.way o.chosen one.field mid (one ∷ []) there) (after : List Case) (cases : all ≡ before ++ one ∷ after) (later : FieldsChecked o.way o.chosen left there after (place_at_last run)) (following : List Entry)
+      (is_first : run_trace run ≡ (fields_trace o gone first before mid earlier ++ field_trace o one.field mid (one ∷ []) there evaluated) ++ following) where
     abbrev field : Field
     field = one.field
 
@@ -180,31 +242,28 @@ module _ {C : Type 0} (o : OneByOne C) (sheet : Contents) (q : Passage C) (all :
       there = there;
       evaluated = evaluated;
       later = later;
+      entries = entries;
+      are = refl;
+      following = following;
+      first = is_first;
       steps = shown-by.0;
       led = subst (λ (w : World). StepsOf w (events_of entries) (outcomes_of entries) shown-by.0 there.world) (sym copied.opened.is) shown-by.1;
     }
 
-    same_sheet : sheet_of copied.opened.ops ≡ sheet
-    same_sheet = ap sheet_in (sym copied.opened.is) ∙ copied.has
-
-    apart : AreApart (numbers sheet.fields)
-    apart = subst (λ (s : Contents). AreApart (numbers s.fields)) same_sheet (sound_of copied.opened.ops copied.opened.allowed).apart
-
     its_field : field_in sheet.fields field.id ≡ Some field
-    its_field = subst (λ (fs : List Field). AreApart (numbers fs) → field_in fs field.id ≡ Some field) (sym split) (finds_it gone field (left ++ others)) apart
+    its_field = field_at gone field (left ++ others) split
 
-    -- the field with its number has its input there
-    has_input : HasInput there.world.ops field.id field.input
-    has_input = inputs_stay field.id field.input opens (events_of entries) (outcomes_of entries) there.world (sound copied.opened.ops copied.made.room copied.opened.end copied.opened.allowed) ran
+    -- the field with its number has its line there
+    has_line : HasItsLine there.world.ops field
+    has_line = lines_stay field opens (events_of entries) (outcomes_of entries) there.world (sound copied.opened.ops copied.made.room copied.opened.end copied.opened.allowed) ran
         (entries_joined (fields_trace o gone first before mid earlier) (field_trace o field mid (one ∷ []) there evaluated)
         (fields_evaluate o gone first before mid earlier) (field_evaluates o field mid (one ∷ []) there evaluated))
-        (record { field = field; found = subst (λ (s : Contents). field_in s.fields field.id ≡ Some field) (sym same_sheet) its_field; input = refl })
+        (record { field = field; found = subst (λ (s : Contents). field_in s.fields field.id ≡ Some field) (sym same_sheet) its_field; session = refl; input = refl })
 
-    same_input : (shown : Field) → shown.id ≡ field.id → Has (sheet_in there.world) shown → shown.input ≡ field.input
-    same_input shown number has =
+    same_line : (shown : Field) → shown.id ≡ field.id → Has (sheet_in there.world) shown → has_line.field ≡ shown
+    same_line shown number has =
         let here : field_in (sheet_in there.world).fields field.id ≡ Some shown = subst (λ (n : ℕ). field_in (sheet_in there.world).fields n ≡ Some shown) number has in
-        let both : Some has_input.field ≡ Some shown = sym has_input.found ∙ here in
-        let is : has_input.field ≡ shown = cc in ap (λ (f : Field). f.input) (sym is) ∙ has_input.input
+        let both : Some has_line.field ≡ Some shown = sym has_line.found ∙ here in cc
 
     -- the field that was there at first is the worksheet's
     was_it : (shown : Field) → shown.id ≡ field.id → Has (sheet_of copied.opened.ops) shown → shown ≡ field
@@ -222,7 +281,8 @@ module _ {C : Type 0} (o : OneByOne C) (sheet : Contents) (q : Passage C) (all :
           taken = taken;
           shown = s.shown;
           number = s.number;
-          input = same_input s.shown s.number s.has;
+          session = ap (λ (f : Field). f.session) (sym (same_line s.shown s.number s.has)) ∙ has_line.session;
+          input = ap (λ (f : Field). f.input) (sym (same_line s.shown s.number s.has)) ∙ has_line.input;
           has = s.has;
           shows = s.shows;
           answered = ⊎_elim
@@ -231,15 +291,16 @@ module _ {C : Type 0} (o : OneByOne C) (sheet : Contents) (q : Passage C) (all :
               (shown-by.2 s.shown answer s.shows s.has);
         }
 
-  whole_field : (gone : List Field) (before : List Case) (mid : At C) → FieldsChecked o.way o.chosen gone first before mid → (next : Field) (left others : List Field) → sheet.fields ≡ gone ++ (next ∷ (left ++ others))
-      → (cases : List Case) (there : At C) → FieldChecked o.way o.chosen next mid cases there → (after : List Case) → all ≡ before ++ (cases ++ after) → FieldsChecked o.way o.chosen left there after (place_at_last run) → AllByRecursion OnCopy (accepted cases)
-  whole_field gone before mid earlier next left others split cases there (passed none) after is_all later = tt
-  whole_field gone before mid earlier next left others split cases there (checked came took v u chosen evaluated judged) after is_all later = go (accepted_answer came v) refl
+  whole_field : (gone : List Field) (before : List Case) (mid : At C) → (earlier : FieldsChecked o.way o.chosen gone first before mid) → (next : Field) (left others : List Field) → sheet.fields ≡ gone ++ (next ∷ (left ++ others))
+      → (cases : List Case) (there : At C) → (c : FieldChecked o.way o.chosen next mid cases there) → (after : List Case) → all ≡ before ++ (cases ++ after) → FieldsChecked o.way o.chosen left there after (place_at_last run)
+      → (following : List Entry) → run_trace run ≡ (fields_trace o gone first before mid earlier ++ field_trace o next mid cases there c) ++ following → AllByRecursion OnCopy (accepted cases)
+  whole_field gone before mid earlier next left others split cases there (passed none) after is_all later following is_first = tt
+  whole_field gone before mid earlier next left others split cases there (checked came took v u chosen evaluated judged) after is_all later following is_first = go (accepted_answer came v) refl
     where
       go : (answer : Option Answer) → accepted_answer came v ≡ answer → AllByRecursion OnCopy (answer_ops next.id answer ++ [])
       go None is = tt
       go (Some answer) is = (
-        came_so gone before mid earlier (case next came (reason_shown_in u.world next.id) v (Some took)) left others split u (checked came took v u chosen evaluated judged) after is_all later answer
+        came_so gone before mid earlier (case next came (reason_shown_in u.world next.id) v (Some took)) left others split u (checked came took v u chosen evaluated judged) after is_all later following is_first answer
             (ap (answer_ops next.id) is)
             (came_from (comes_by evaluated.marks next.id) (shown_in u.world next.id) answer (sym evaluated.came_is ∙ came_there came v answer is))
             (λ shows. not_kept next came v answer judged shows is),
@@ -250,23 +311,42 @@ module _ {C : Type 0} (o : OneByOne C) (sheet : Contents) (q : Passage C) (all :
   all_joined [] more a b = b
   all_joined (op ∷ ops) more a b = (a.0, all_joined ops more a.1 b)
 
-  whole_fields : (gone : List Field) (before : List Case) (mid : At C) → FieldsChecked o.way o.chosen gone first before mid → (fields others : List Field) → sheet.fields ≡ gone ++ (fields ++ others)
-      → (cases : List Case) → all ≡ before ++ cases → FieldsChecked o.way o.chosen fields mid cases (place_at_last run) → AllByRecursion OnCopy (accepted cases)
-  whole_fields gone before mid earlier [] others split cases is_all c = subst (λ (l : List Case). AllByRecursion OnCopy (accepted l)) (sym c.0) tt
-  whole_fields gone before mid earlier (next ∷ fields) others split cases is_all c =
+  whole_fields : (gone : List Field) (before : List Case) (mid : At C) → (earlier : FieldsChecked o.way o.chosen gone first before mid) → (fields others : List Field) → sheet.fields ≡ gone ++ (fields ++ others)
+      → (cases : List Case) → all ≡ before ++ cases → (c : FieldsChecked o.way o.chosen fields mid cases (place_at_last run))
+      → run_trace run ≡ fields_trace o gone first before mid earlier ++ fields_trace o fields mid cases (place_at_last run) c → AllByRecursion OnCopy (accepted cases)
+  whole_fields gone before mid earlier [] others split cases is_all c is_first = subst (λ (l : List Case). AllByRecursion OnCopy (accepted l)) (sym c.0) tt
+  whole_fields gone before mid earlier (next ∷ fields) others split cases is_all c is_first =
       let now : all ≡ before ++ (c.1 ++ c.2) = is_all ∙ ap (λ (l : List Case). before ++ l) c.5 in
+      let gave = fields_trace o gone first before mid earlier in
+      let gives = field_trace o next mid c.1 c.0 c.3 in
+      let rest = fields_trace o fields c.0 c.2 (place_at_last run) c.4 in
+      let so_far : run_trace run ≡ (gave ++ gives) ++ rest = is_first ∙ sym (append_assoc gave gives rest) in
       subst (λ (l : List Case). AllByRecursion OnCopy (accepted l)) (sym c.5)
       (subst (AllByRecursion OnCopy) (sym (flat_map-append accepted_of c.1 c.2))
-      (all_joined (accepted c.1) (accepted c.2) (whole_field gone before mid earlier next fields others split c.1 c.0 c.3 c.2 now c.4)
+      (all_joined (accepted c.1) (accepted c.2) (whole_field gone before mid earlier next fields others split c.1 c.0 c.3 c.2 now c.4 rest so_far)
       (whole_fields (gone ++ next ∷ []) (before ++ c.1) c.0 (fields-more o gone next first before mid c.1 c.0 earlier c.3) fields others
-      (split ∙ sym (append_assoc gone (next ∷ []) (fields ++ others))) c.2 (now ∙ sym (append_assoc before c.1 c.2)) c.4)))
+      (split ∙ sym (append_assoc gone (next ∷ []) (fields ++ others))) c.2 (now ∙ sym (append_assoc before c.1 c.2)) c.4
+      (so_far ∙ ap (λ (l : List Entry). l ++ rest) (sym (trace_more o gone next first before mid c.1 c.0 earlier c.3))))))
 
   -- what is accepted of all of them
-  all_whole : (fields others : List Field) → sheet.fields ≡ fields ++ others → FieldsChecked o.way o.chosen fields first all (place_at_last run) → AllByRecursion OnCopy (accepted all)
-  all_whole fields others split c = whole_fields [] [] first (refl, refl) fields others split all refl c
+  all_whole : (fields others : List Field) → sheet.fields ≡ fields ++ others → (c : FieldsChecked o.way o.chosen fields first all (place_at_last run))
+      → run_trace run ≡ fields_trace o fields first all (place_at_last run) c → AllByRecursion OnCopy (accepted all)
+  all_whole fields others split c is = whole_fields [] [] first (refl, refl) fields others split all refl c is
 
 -- Of each such run.
 pub ran_whole : {C : Type 0} (o : OneByOne C) (sheet : Contents) (q : Passage C) (all : List Case) (run : RanOnCopy o sheet q all) → AllByRecursion (AnsweredOnCopy o sheet q all run) (accepted all)
-ran_whole o sheet q all (all_fields c) = all_whole o sheet q c.cases (all_fields c) c.copied refl sheet.fields [] (sym (append-nil sheet.fields)) c.checked
-ran_whole o sheet q all (first_fields c) = all_whole o sheet q all (first_fields c) c.copied refl c.gone c.left c.split c.checked
-ran_whole o sheet q all (broke_off c) = all_whole o sheet q all (broke_off c) c.copied refl c.gone c.left c.split c.checked
+ran_whole o sheet q all (all_fields c) = all_whole o sheet q c.cases (all_fields c) c.copied refl sheet.fields [] (sym (append-nil sheet.fields)) c.checked refl
+ran_whole o sheet q all (first_fields c) = all_whole o sheet q all (first_fields c) c.copied refl c.gone c.left c.split c.checked refl
+ran_whole o sheet q all (broke_off c) = all_whole o sheet q all (broke_off c) c.copied refl c.gone c.left c.split c.checked refl
+
+-- what came so is whole answers
+pub whole_by : {C : Type 0} (o : OneByOne C) (sheet : Contents) (q : Passage C) (all : List Case) (run : RanOnCopy o sheet q all) (put : Op) → AnsweredOnCopy o sheet q all run put → PutsWhole sheet (events_of (run_trace run)) put
+whole_by o sheet q all (all_fields c) = whole_answer o sheet q c.cases (all_fields c) c.copied refl
+whole_by o sheet q all (first_fields c) = whole_answer o sheet q all (first_fields c) c.copied refl
+whole_by o sheet q all (broke_off c) = whole_answer o sheet q all (broke_off c) c.copied refl
+
+-- nothing but evaluations was asked
+pub run_evaluates : {C : Type 0} (o : OneByOne C) (sheet : Contents) (q : Passage C) (all : List Case) (run : RanOnCopy o sheet q all) → AllByRecursion IsEvaluating (events_of (run_trace run))
+run_evaluates o sheet q all (all_fields c) = fields_evaluate o sheet.fields _ c.cases c.leads c.checked
+run_evaluates o sheet q all (first_fields c) = fields_evaluate o c.gone _ all c.mid c.checked
+run_evaluates o sheet q all (broke_off c) = fields_evaluate o c.gone _ all c.mid c.checked

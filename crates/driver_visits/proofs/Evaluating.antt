@@ -1,4 +1,4 @@
--- Where fields of a copy are evaluated, nothing but evaluations is asked; so each field keeps its input.
+-- Where fields of a copy are evaluated, nothing but evaluations is asked; so each field keeps its session and its input.
 use Rattle.std.proofs.Common.{◌≡◌, ◌⊎◌, ◌∙◌, ⊎_elim, inl, inr, ℕ, List, [], ◌∷◌, ◌++◌, Bool, Option, Some, None, Ok, Err, zero, suc, refl, sym, ap, subst, append-nil, append_assoc}
 use Rattle.std.specs.Prelude.{Result, length, map}
 use Rattle.std.specs.List.{AllByRecursion}
@@ -26,12 +26,13 @@ use Rattle.session_engine.specs.inside.Words.{with_piece}
 use Rattle.session_engine.proofs.Losing.{if_ended, if_pieced}
 use Rattle.host_laws.specs.inside.Given.{Commanded, Ended_by, GivesByParts, Pieced, step_at}
 use Rattle.host_laws.proofs.ByParts.{by_parts}
-use Rattle.host_laws.proofs.FieldLaws.{HasInput, KeepsInput, input_stays}
+use Rattle.host_laws.proofs.FieldLaws.{HasItsLine, KeepsInput, its_line_stays}
 use Rattle.host_laws.proofs.Living.{Sound}
 use Rattle.host_laws.proofs.Showing.{ops_item, stepped}
 use Rattle.child_calls.specs.Calls.{Answer, done, end, fault, no_memory, piece}
 use Rattle.child_calls.specs.declared.seat.Seat.{Seat}
 use Rattle.child_edge.specs.Faithful.{At, Entry, FirstOf, Follows, Relation, at, due_after, due_of}
+use Rattle.theorem.specs.Copies.{IsEvaluating}
 use Rattle.child_edge.specs.Moments.{events_of}
 use Rattle.child_edge.specs.Together.{CarriesOut, Followed, HearsOne, entries_after, group_entries, trace_of}
 use Rattle.offline_programs.specs.declared.fault.RunFault.{RunFault}
@@ -59,16 +60,8 @@ use Rattle.field_agenda.specs.declared.stage.Stage.TheVariants as stage
 
 -- Evaluations, and what comes from lives.
 
-abbrev IsEval : Command → Type 0
-IsEval (command.Eval id) = Unit {0}
-IsEval _ = ⊥
-
-abbrev IsOfEvals : Event → Type 0
-IsOfEvals (event.Command c) = IsEval c
-IsOfEvals (event.Child name number c) = Unit {0}
-
 abbrev pub AreOfEvals : List Event → Type 0
-AreOfEvals events = AllByRecursion IsOfEvals events
+AreOfEvals events = AllByRecursion IsEvaluating events
 
 all_joined : (es fs : List Event) → AreOfEvals es → AreOfEvals fs → AreOfEvals (es ++ fs)
 all_joined [] fs h k = k
@@ -115,7 +108,7 @@ by_eval w id None o v given = ⊎_elim
     (λ yes. subst (KeptInputs w) (sym yes.1) (inr (op.Clear id, ap (λ (os : List Op). os ++ op.Clear id ∷ []) (ops_item w _ _ _), λ n. tt)))
     (λ no. stays w v no.2) given
 
-kept_inputs : (w : World) (e : Event) (o : Outcome) (v : World) → GivesByParts w e o v → IsOfEvals e → KeptInputs w v
+kept_inputs : (w : World) (e : Event) (o : Outcome) (v : World) → GivesByParts w e o v → IsEvaluating e → KeptInputs w v
 kept_inputs w (event.Command (command.Eval id)) o v given of = by_eval w id (first_of (command_refusals w (command.Eval id))) o v given
 kept_inputs w (event.Command (command.Session name tab words)) o v given of = absurd of
 kept_inputs w (event.Command (command.New place session input)) o v given of = absurd of
@@ -140,18 +133,19 @@ last_allowed : (before os : List Op) (o : Op) → AllowedFrom before (os ++ o �
 last_allowed before [] o h = subst (λ (l : List Op). first_refusal (sheet_of l) o ≡ None) (sym (append-nil before)) h.0
 last_allowed before (x ∷ os) o h = subst (λ (l : List Op). first_refusal (sheet_of l) o ≡ None) (append_assoc before (x ∷ []) os) (last_allowed (before ++ x ∷ []) os o h.1)
 
-pub inputs_stay : (id : ℕ) (text : List ℕ) (w : World) (es : List Event) (os : List Outcome) (v : World) → Sound w → Runs w es os v → AreOfEvals es → HasInput w.ops id text → HasInput v.ops id text
-inputs_stay id text w [] [] v h run all has = subst (λ (x : World). HasInput x.ops id text) (sym run) has
-inputs_stay id text w [] (o ∷ os) v h run all has = absurd run
-inputs_stay id text w (e ∷ es) [] v h run all has = absurd run
-inputs_stay id text w (e ∷ es) (o ∷ os) v h run all has =
+-- a field keeps its line
+pub lines_stay : (f : Field) (w : World) (es : List Event) (os : List Outcome) (v : World) → Sound w → Runs w es os v → AreOfEvals es → HasItsLine w.ops f → HasItsLine v.ops f
+lines_stay f w [] [] v h run all has = subst (λ (x : World). HasItsLine x.ops f) (sym run) has
+lines_stay f w [] (o ∷ os) v h run all has = absurd run
+lines_stay f w (e ∷ es) [] v h run all has = absurd run
+lines_stay f w (e ∷ es) (o ∷ os) v h run all has =
     let mid = run.0 in
     let after = (stepped w e o mid h run.1).sound in
-    let now : HasInput mid.ops id text = ⊎_elim
-    (λ same. subst (λ (l : List Op). HasInput l id text) (sym same) has)
-    (λ one. subst (λ (l : List Op). HasInput l id text) (sym one.1) (input_stays w.ops one.0 id text h.allowed (last_allowed [] w.ops one.0 (subst Allowed one.1 after.allowed)) (one.2 id) has))
+    let now : HasItsLine mid.ops f = ⊎_elim
+    (λ same. subst (λ (l : List Op). HasItsLine l f) (sym same) has)
+    (λ one. subst (λ (l : List Op). HasItsLine l f) (sym one.1) (its_line_stays w.ops one.0 f h.allowed (last_allowed [] w.ops one.0 (subst Allowed one.1 after.allowed)) (one.2 f.id) has))
     (kept_inputs w e o mid (by_parts w e o mid run.1) all.0) in
-    inputs_stay id text mid es os v after run.2 all.1 now
+    lines_stay f mid es os v after run.2 all.1 now
 
 -- A run that comes to its end had no fault.
 
@@ -184,7 +178,7 @@ AsksEvals (item.hear seat most) = Unit {0}
 AsksEvals (item.take from events) = AreOfEvals events
 AsksEvals (item.take_transaction first events) = ⊥
 AsksEvals (item.take_edits up_to events) = ⊥
-AsksEvals (item.take_alone e) = IsOfEvals e
+AsksEvals (item.take_alone e) = IsEvaluating e
 AsksEvals (item.carry o) = Unit {0}
 AsksEvals (item.receive seat) = Unit {0}
 AsksEvals (item.join events) = AreOfEvals events
@@ -262,8 +256,8 @@ all_stalled : (seats : List Seat) → AreOfEvals (map stalls seats)
 all_stalled [] = tt
 all_stalled (seat ∷ seats) = (tt, all_stalled seats)
 
-one_heard : {C : Type 0} (R : Relation C) (seat : Seat) (c : C) (e : Event) (d : C) → HearsOne R seat c e d → IsOfEvals e
-one_heard R seat c e d (said, heard, is) = subst IsOfEvals (sym is) tt
+one_heard : {C : Type 0} (R : Relation C) (seat : Seat) (c : C) (e : Event) (d : C) → HearsOne R seat c e d → IsEvaluating e
+one_heard R seat c e d (said, heard, is) = subst IsEvaluating (sym is) tt
 
 heard_after : {C : Type 0} (R : SourceRules C) (c : C) (events : List Event) (d : C) → HeardAfter R c events d → AreOfEvals events
 heard_after R c events d no_other = tt
@@ -277,7 +271,7 @@ all_heard R seat most c events d (last, heard, again) =
 -- an event that is due, if one is, comes from a life
 abbrev IsDue : Option Event → Type 0
 IsDue None = Unit {0}
-IsDue (Some e) = IsOfEvals e
+IsDue (Some e) = IsEvaluating e
 
 fault_due : (f : Effect) → IsDue (due_of (Some f) (Some fault))
 fault_due (effect.Start name life words) = tt
@@ -300,7 +294,7 @@ due_asks (Some e) h = (h, tt)
 follows : {C : Type 0} (R : Relation C) (s : At C) (due : Option Event) (bs : List Entry) (left : Option Event) (t : At C) → IsDue due → Follows R s due bs left t → AreOfEvals (events_of bs)
 follows R s due [] left t h f = tt
 follows R s None (b ∷ bs) left t h f = absurd f
-follows R s (Some e) (b ∷ bs) left t h f = (subst IsOfEvals (sym f.1.event) h, follows R f.0 (due_after b) bs left t (all_due b.outcome.effect b.answer) f.2)
+follows R s (Some e) (b ∷ bs) left t h f = (subst IsEvaluating (sym f.1.event) h, follows R f.0 (due_after b) bs left t (all_due b.outcome.effect b.answer) f.2)
 
 after-joined : (fs gs : List Followed) → entries_after (fs ++ gs) ≡ entries_after fs ++ entries_after gs
 after-joined [] gs = refl

@@ -10,6 +10,7 @@ use Rattle.worksheet.specs.declared.op.Op.{Op}
 use Rattle.session_engine.specs.Host.{HostView}
 use Rattle.theorem.specs.Acts.{Act, Files, HasFirst, OpensAfterActs, OpensSo, Uses, filed, no_use}
 use Rattle.theorem.specs.Acts as acts
+use Rattle.theorem.specs.Copies.{PutIn}
 use Rattle.recovery.specs.Sheets.{IsSheetImage}
 use Rattle.worksheet.specs.Ops.{sheet_of}
 use Rattle.check_report.specs.declared.verdict.VerdictCounts.{VerdictCounts}
@@ -56,14 +57,14 @@ module _ {C D : Type 0} (o : OneByOne C) (q : Passage C) (held : Option (List �
   opens_as acts kept came = after kept disk.room e.ops e.image acts e.allowed e.found came
 
   -- what was reported was on the disk
-  before-text : (ops put : List Op) (f : Files (bytes_on disk) disk ops put back) (before : List Case) (case : Case) → ReportedAfter (filing held ops f.now back) q.text put before case
+  before-text : (ops : List Op) (put : PutIn) (f : Files (bytes_on disk) disk ops put back) (before : List Case) (case : Case) → ReportedAfter (filing held ops f.now back) q.text put.ops before case
       → AnswersBeforeText e (filing held ops f.now back) q.text put before case
   before-text ops put f before case was =
       let first = accepted (before ++ case ∷ []) in
       record {
         was = was;
         leaves = λ crash crashed. left_with hosts one disk e (filed put first) crash (acts.filing disk back ops f was.disk.history
-            (λ keeps. weakens (IsAmong (ops ++ first) was.rest) (HasFirst ops put first) was.disk.history back.history
+            (λ keeps. weakens (IsAmong (ops ++ first) was.rest) (HasFirst ops put.ops first) was.disk.history back.history
             (λ i among. subst (λ (l : List Op). HasFirst ops l first i) (sym was.split) (has_first ops first was.rest i among)) (was.since keeps)) crashed no_use);
       }
 
@@ -75,11 +76,11 @@ module _ {C D : Type 0} (o : OneByOne C) (q : Passage C) (held : Option (List �
       let now : IsTrue f.now.keeps_model = subst IsTrue (sym f.same.keeps_model) model in
       let kept : IsTrue back.keeps_model = subst IsTrue (sym same.keeps_model) now in
       let reported = accepted cases in
-      let at_end = λ (keeps : IsTrue f.now.keeps_model). started (HasFirst ops put reported) back.history (holds keeps) in
+      let at_end = λ (keeps : IsTrue f.now.keeps_model). started (HasFirst ops put.ops reported) back.history (holds keeps) in
       record {
         within = λ crash crashed. left_with hosts one disk e (filed put []) crash (acts.filing disk back ops f f.now.history f.moments crashed no_use);
         printed_is = λ before case others split. before-text ops put f before case
-            (reported_after (filing held ops f.now back) q.text put [] before case others (subst (EachReported (filing held ops f.now back) q.text put []) split order));
+            (reported_after (filing held ops f.now back) q.text put.ops [] before case others (subst (EachReported (filing held ops f.now back) q.text put.ops []) split order));
         ended = λ crash crashed. left_with hosts one disk e (filed put reported) crash (acts.filing disk back ops f back.history at_end crashed no_use);
         opens = opens_as (e.acts ++ filed put reported ∷ []) kept
             (used_on disk.room e.image (bytes_on disk) (bytes_on back) e.acts (filed put reported ∷ []) e.came

@@ -30,7 +30,8 @@ use Rattle.driver_visits.specs.declared.crashed.AfterCrash.TheVariants as crashe
 use Rattle.driver_visits.specs.Earlier.{CrashesLeave, EarlierUses, LeftWith}
 use Rattle.driver_visits.specs.Runs.{CrashOpens, LeavesPrefix, LeavesPrinted, OpenedAgain, OpeningLeaves, OpensAfterCrash, OpensCrashed, RunsThenCrashes, RunsThenOpens, not_begun, ran, run_reporting, run_act, unknown_reports, unopened, was_cut, with_disk}
 use Rattle.driver_visits.specs.Visits.{turn_of}
-use Rattle.driver_visits.proofs.Parts.{Parted, parted}
+use Rattle.driver_visits.specs.Tried.{TriedLast}
+use Rattle.driver_visits.proofs.Parts.{Parted, parted_run}
 use Rattle.driver_visits.proofs.Printing.{printed_of}
 use Rattle.driver_visits.proofs.Visiting.{durable_at, visit_by}
 
@@ -57,8 +58,12 @@ module _ {A C K : Type 0} (hosts : HostsInTurn) (one : OneSheet) (R : Rules A C 
   abbrev at_end : RunPlace A C K
   at_end = record { asked = it.asked; agenda = last.agenda; world = it.world; disk = last.disk; sources = it.sources; sink = last.sink }
 
+  abbrev parts : (p : Parted (world_at_opening it.opened.ops first.disk.room it.opened.end) it.opened.now (trace it.steps) last.disk)
+      × TriedLast R (first_place first it.opened) (ask ∷ []) it.steps p.events
+  parts = parted_run R (first_place first it.opened) at_end (ask ∷ []) (left_at_end answer) it.steps it.ran
+
   abbrev whole : Parted (world_at_opening it.opened.ops first.disk.room it.opened.end) it.opened.now (trace it.steps) last.disk
-  whole = parted R (first_place first it.opened) at_end (ask ∷ []) (left_at_end answer) it.steps it.ran
+  whole = parts.0
 
   pub within : CrashesLeave first.disk e (unknown_reports (turn_of it.steps whole.events)) it.opened.now.history last.disk.history
   within after crashed = ran_last (record { events = (turn_of it.steps whole.events).events; reported = [] }) after
@@ -78,6 +83,7 @@ module _ {A C K : Type 0} (hosts : HostsInTurn) (one : OneSheet) (R : Rules A C 
         sink = d.sink;
         tries = d.tries;
         unreported = d.unreported;
+        tried = d.tried;
         since = λ after crashed. ran_last (record { events = (turn_of it.steps d.unreported).events; reported = outcomes_of (trace done) }) after
             (cut_since {turn = turn_of it.steps d.unreported} first.disk last.disk refl d.visit (outcomes_of (trace done)) d.there.disk.history d.since crashed no_more);
       }
@@ -100,6 +106,7 @@ module _ {A C K D : Type 0} (hosts : HostsInTurn) (one : OneSheet) (R : Rules A 
       let turn = turn_of it.steps (whole hosts one R first (given_back disk) answer it model e).events in
       let left = has_ended hosts one R first (given_back disk) answer it model e (bytes_on disk) (crashed_now disk.history (bytes_on disk) image) in record {
         unreported = (whole hosts one R first (given_back disk) answer it model e).events;
+        tried = (parts hosts one R first (given_back disk) answer it model e).1;
         opening = opening hosts one R first (given_back disk) answer it model e;
         within = within hosts one R first (given_back disk) answer it model e;
         printed_is = printed_is hosts one R first (given_back disk) answer it model e;
@@ -152,6 +159,7 @@ module _ {A C K D : Type 0} (hosts : HostsInTurn) (one : OneSheet) (R : Rules A 
   pub opens_after_crash : OpensAfterCrash R first last answer it moment (bytes_on crash) opened e
   opens_after_crash = record {
     unreported = (whole hosts one R first last answer it model e).events;
+    tried = (parts hosts one R first last answer it model e).1;
     opening = λ restarted since until.
         let same = opening hosts one R first last answer it model e restarted (bytes_on crash) (crashed_before since until) in
         after kept first.disk.room e.ops e.image e.acts e.allowed e.found (subst (λ (i : Image). Uses first.disk.room e.image e.acts i) (sym same) e.came);

@@ -23,7 +23,8 @@ use Rattle.driver.specs.Over.{ProgramParts, RanOver, first_place}
 use Rattle.driver.proofs.Courses.{events_append, runs_on}
 use Rattle.driver.proofs.Order.{printed_there}
 use Rattle.driver_visits.specs.Visits.{DurableAt, EndsAsVisit, turn_of}
-use Rattle.driver_visits.proofs.Parts.{Parted, parted, parted_after, parted_as}
+use Rattle.driver_visits.specs.Tried.{TriedLast}
+use Rattle.driver_visits.proofs.Parts.{Parted, parted_after, parted_as, parted_run, tried_on}
 
 module _ {A C K : Type 0} (R : Rules A C K) (first last : ProgramParts A C K) (answer : Result (Unit {0}) RunFault) (it : RanOver R first last answer) (model : IsTrue first.disk.keeps_model) where
   abbrev start : World
@@ -56,8 +57,8 @@ module _ {A C K : Type 0} (R : Rules A C K) (first last : ProgramParts A C K) (a
 
   pub ends_as_visit : EndsAsVisit R first last answer it
   ends_as_visit =
-      let p = parted R (first_place first it.opened) at_end (ask ∷ []) (left_at_end answer) it.steps it.ran in
-      record { unreported = p.events; visit = visit_by p; looks = it.opened.looks model }
+      let p = parted_run R (first_place first it.opened) at_end (ask ∷ []) (left_at_end answer) it.steps it.ran in
+      record { unreported = p.0.events; visit = visit_by p.0; looks = it.opened.looks model; tried = p.1 }
 
   -- an image after events of the steps before, and some of those that came then
   has_all : (bs cs : List Entry) (v : World) (es : List Event) (os : List Outcome) (i : Image) → Runs start (events_of bs) (outcomes_of bs) v → LeftAmong v (events_of cs ++ es) os i
@@ -78,13 +79,17 @@ module _ {A C K : Type 0} (R : Rules A C K) (first last : ProgramParts A C K) (a
       let so = printed_there R (first_place first it.opened) at_end (ask ∷ []) (left_at_end answer) before after r
       (subst (λ (x : List RunStep). Run R (first_place first it.opened) (ask ∷ []) x (left_at_end answer) at_end) is it.ran) in
       let there = so.there in
-      let tail = parted R (record there { sink = so.sink }) at_end so.then_to_do (left_at_end answer) after so.goes_on in
+      let later = parted_run R (record there { sink = so.sink }) at_end so.then_to_do (left_at_end answer) after so.goes_on in
+      let tail = later.0 in
       let same : trace it.steps ≡ trace before ++ trace after = ap trace is ∙ flat_map-append entries_of before (printed r ∷ after) in
       let m = tail.moments (so.course.holds it.opened.holds) in
       let kept : IsTrue there.disk.keeps_model = subst IsTrue (sym so.course.same.keeps_model) (subst IsTrue (sym it.opened.same.keeps_model) model) in record {
         unreported = tail.events;
         visit = visit_by (parted_as start it.opened.now (trace it.steps) (trace before ++ trace after) last.disk same
             (parted_after start it.opened.now (trace before) there.world there.disk (trace after) last.disk so.course tail));
+        tried = subst (λ (steps : List RunStep). TriedLast R (first_place first it.opened) (ask ∷ []) steps tail.events) (sym is)
+            (tried_on R (first_place first it.opened) there (ask ∷ []) so.to_do before (printed r ∷ after) tail.events so.ran
+            (tried_on R there (record there { sink = so.sink }) so.to_do so.then_to_do (printed r ∷ []) after tail.events (so.then_to_do, record there { sink = so.sink }, so.goes, (refl, refl)) later.1));
         there = there;
         to_do = so.to_do;
         ran = so.ran;

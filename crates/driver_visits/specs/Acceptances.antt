@@ -7,6 +7,8 @@ use Rattle.worksheet.specs.declared.op.Op.{Op}
 use Rattle.worksheet.specs.Contents.{Contents}
 use Rattle.worksheet.specs.Ops.{sheet_of}
 use Rattle.theorem.specs.Acts.{Files, HasFirst}
+use Rattle.theorem.specs.Copies.{PutIn, put_from}
+use Rattle.child_edge.specs.Moments.{events_of}
 use Rattle.host_events.specs.declared.outcome.HostFault.TheVariants as hosts
 use Rattle.offline_programs.specs.declared.fault.RunFault.TheVariants as fault
 use Rattle.check_report.specs.declared.chosen.Chosen.{Chosen}
@@ -19,7 +21,7 @@ use Rattle.sheet_check.specs.Check.{OnlyRead, Passage, passage}
 use Rattle.sheet_check.specs.Evaluated.{OneByOne, Way}
 use Rattle.sheet_check.specs.declared.named.CheckFault.{CheckFault}
 use Rattle.sheet_check.specs.declared.named.CheckFault.TheVariants as checks
-use Rattle.driver_visits.specs.Copied.{PutFromCopy}
+use Rattle.driver_visits.specs.Copied.{PutFromCopy, run_trace}
 
 -- these ops are those that were reported; and where the disk failed, one more
 abbrev pub AtMostOneMore : Result VerdictCounts CheckFault → List Op → List Op → Type 0
@@ -29,18 +31,19 @@ AtMostOneMore answer put reported = (put ≡ reported) ⊎ ((answer ≡ Err (che
 abbrev pub OrOneMore : List Case → List Case → Type 0
 OrOneMore all cases = (all ≡ cases) ⊎ ((last : Case) × (all ≡ cases ++ last ∷ []))
 
--- No field was evaluated, and nothing was put in or reported. Or fields were, on one copy, and these ops are what came of that.
-abbrev pub FromCopy : {C : Type 0} → OneByOne C → Contents → Passage C → List Case → List Op → Type 0
-FromCopy o sheet q cases put = ((put ≡ []) × (cases ≡ [])) ⊎ ((all : List Case) × OrOneMore all cases × PutFromCopy o sheet q all put)
+-- No field was evaluated, and nothing was put in or reported. Or fields were, on one copy, whose host was given these events, and the ops are what came of that.
+abbrev pub FromCopy : {C : Type 0} → OneByOne C → Contents → Passage C → List Case → PutIn → Type 0
+FromCopy o sheet q cases put =
+    ((put ≡ put_from [] []) × (cases ≡ [])) ⊎ ((all : List Case) × OrOneMore all cases × (from : PutFromCopy o sheet q all put.ops) × (put.given ≡ events_of (run_trace from.run)))
 
 -- What an acceptance that reported these cases left of a disk that keeps the model. It couldn't open it and made reads alone. Or it opened it, which
 -- changed no byte, and put answers in, those that it reported, and one more where the disk failed. Each was on the disk before it was reported, and each is a
 -- whole block that answered the line of its field on the copy. When it had ended each image that a crash may leave has all that it reported.
 pub data LeftByAcceptance {C : Type 0} (o : OneByOne C) (q : Passage C) (x : Acceptance) (answer : Result VerdictCounts CheckFault) : List Case → Type 0 where
   only_read : OnlyRead x.disk x.back → LeftByAcceptance o q x answer []
-  put_in : {cases : List Case} (ops put : List Op) → (f : Files (bytes_on x.disk) x.disk ops put x.back) → Looks x.disk.history f.now.history
-      → SameDisk f.now x.back → AtMostOneMore answer put (accepted cases) → InModel f.now (Leaves (HasFirst ops put (accepted cases)) x.back.history.now)
-      → EachReported (filing x.held ops f.now x.back) q.text put [] cases → FromCopy o (sheet_of ops) q cases put → LeftByAcceptance o q x answer cases
+  put_in : {cases : List Case} (ops : List Op) (put : PutIn) → (f : Files (bytes_on x.disk) x.disk ops put x.back) → Looks x.disk.history f.now.history
+      → SameDisk f.now x.back → AtMostOneMore answer put.ops (accepted cases) → InModel f.now (Leaves (HasFirst ops put.ops (accepted cases)) x.back.history.now)
+      → EachReported (filing x.held ops f.now x.back) q.text put.ops [] cases → FromCopy o (sheet_of ops) q cases put → LeftByAcceptance o q x answer cases
 
 -- what stands after the report of these cases: their counts, and nothing where it ended by a fault
 abbrev pub closing_after : List Case → Result VerdictCounts CheckFault → List ℕ

@@ -56,8 +56,14 @@ abbrev pub fields_trace : {C : Type 0} (o : OneByOne C) (fields : List Field) (s
 fields_trace o [] s cases t c = []
 fields_trace o (field ∷ fields) s cases t c = field_trace o field s c.1 c.0 c.3 ++ fields_trace o fields c.0 c.2 t c.4
 
--- In such a run this field was evaluated after those before it in the worksheet, which is this case, and before those after it. These were the host's steps up to
--- then: those of the events of these evaluations.
+-- the entries of all evaluations of such a run
+abbrev pub run_trace : {C : Type 0} {o : OneByOne C} {sheet : Contents} {q : Passage C} {cases : List Case} → RanOnCopy o sheet q cases → List Entry
+run_trace {o = o} {sheet = sheet} {q = q} (all_fields c) = fields_trace o sheet.fields (at c.start q.sources c.copy) c.cases c.leads c.checked
+run_trace {o = o} {q = q} {cases = cases} (first_fields c) = fields_trace o c.gone (at c.start q.sources c.copy) cases c.mid c.checked
+run_trace {o = o} {q = q} {cases = cases} (broke_off c) = fields_trace o c.gone (at c.start q.sources c.copy) cases c.mid c.checked
+
+-- In such a run this field was evaluated after those before it in the worksheet, which is this case, and before those after it. The entries up to then are the first
+-- of the run's, and these were the host's steps up to then.
 pub record EvaluatedOnCopy {C : Type 0} (o : OneByOne C) (sheet : Contents) (q : Passage C) (all : List Case) (run : RanOnCopy o sheet q all) (one : Case) : Type 0 where
   pub gone : List Field
   pub left : List Field
@@ -71,12 +77,15 @@ pub record EvaluatedOnCopy {C : Type 0} (o : OneByOne C) (sheet : Contents) (q :
   pub there : At C
   pub evaluated : FieldChecked o.way o.chosen one.field mid (one ∷ []) there
   pub later : FieldsChecked o.way o.chosen left there after (place_at_last run)
+  pub entries : List Entry
+  pub are : entries ≡ fields_trace o gone (place_at_first run) before mid earlier ++ field_trace o one.field mid (one ∷ []) there evaluated
+  pub following : List Entry
+  pub first : run_trace run ≡ entries ++ following
   pub steps : List HostStep
-  pub led : StepsOf (world_at_first run) (events_of (fields_trace o gone (place_at_first run) before mid earlier ++ field_trace o one.field mid (one ∷ []) there evaluated))
-      (outcomes_of (fields_trace o gone (place_at_first run) before mid earlier ++ field_trace o one.field mid (one ∷ []) there evaluated)) steps there.world
+  pub led : StepsOf (world_at_first run) (events_of entries) (outcomes_of entries) steps there.world
 
 -- This op puts in an answer that came so, and that is what is accepted of the case: as the field of the copy showed it then, since one of the steps had closed it.
--- That field has the input of the worksheet's. So the answer is the output of a whole block that answered its line.
+-- That field has the session and the input of the worksheet's field. So the answer is the output of a whole block that answered its line.
 pub record AnsweredOnCopy {C : Type 0} (o : OneByOne C) (sheet : Contents) (q : Passage C) (all : List Case) (run : RanOnCopy o sheet q all) (put : Op) : Type 0 where
   pub one : Case
   pub on_copy : EvaluatedOnCopy o sheet q all run one
@@ -85,6 +94,7 @@ pub record AnsweredOnCopy {C : Type 0} (o : OneByOne C) (sheet : Contents) (q : 
   pub taken : accepted_of one ≡ put ∷ []
   pub shown : Field
   pub number : shown.id ≡ one.field.id
+  pub session : shown.session ≡ one.field.session
   pub input : shown.input ≡ one.field.input
   pub has : Has (sheet_in on_copy.there.world) shown
   pub shows : shown.answer ≡ Some answer

@@ -8,6 +8,7 @@ use Rattle.offline_programs.specs.declared.fault.RunFault.TheVariants as fault
 use Rattle.worksheet.specs.declared.op.Op.{Op}
 use Rattle.session_engine.specs.Host.{HostView}
 use Rattle.theorem.specs.Acts.{Files, OpensSo, filed}
+use Rattle.theorem.specs.Copies.{PutIn}
 use Rattle.check_report.specs.declared.verdict.VerdictCounts.{VerdictCounts}
 use Rattle.check_report.specs.Reports.{Case}
 use Rattle.sheet_check.specs.Accept.{AcceptAnswer, Acceptance, Filing, ReportedAfter, acceptance, accepted, filing}
@@ -21,13 +22,13 @@ use Rattle.driver_visits.specs.Runs.{OpenedAgain}
 
 -- A case was reported after those before it, when the disk was in this state. From that state on a crash leaves a worksheet with what was accepted of this
 -- case and of those.
-pub record AnswersBeforeText {disk : DiskView} (e : EarlierUses disk) (x : Filing) (at_first : Option (List ℕ)) (put : List Op) (before : List Case) (one : Case) : Type 0 where
-  pub was : ReportedAfter x at_first put before one
+pub record AnswersBeforeText {disk : DiskView} (e : EarlierUses disk) (x : Filing) (at_first : Option (List ℕ)) (put : PutIn) (before : List Case) (one : Case) : Type 0 where
+  pub was : ReportedAfter x at_first put.ops before one
   pub leaves : CrashesLeave disk e (filed put (accepted (before ++ one ∷ []))) was.disk.history x.after.history
 
 -- What an acceptance leaves that opened the disk, put answers in and reported these cases, and what is opened then. A crash after the opening leaves some of the
 -- answers, with all that was reported by then; one at its end all that it reported. These, and what it put in beside them, are in the worksheet that is opened.
-pub record LeavesAnswers {D : Type 0} {ops put : List Op} (x : Acceptance) (text : Option (List ℕ)) (cases : List Case) (f : Files (bytes_on x.disk) x.disk ops put x.back) (e : EarlierUses x.disk) (opened : Result HostView (OpenFault D)) : Type 0 where
+pub record LeavesAnswers {D : Type 0} {ops : List Op} {put : PutIn} (x : Acceptance) (text : Option (List ℕ)) (cases : List Case) (f : Files (bytes_on x.disk) x.disk ops put x.back) (e : EarlierUses x.disk) (opened : Result HostView (OpenFault D)) : Type 0 where
   pub within : CrashesLeave x.disk e (filed put []) f.now.history x.back.history
   pub printed_is : (before : List Case) (one : Case) (others : List Case) → cases ≡ before ++ one ∷ others → AnswersBeforeText e (filing x.held ops f.now x.back) text put before one
   pub ended : CrashesLeave x.disk e (filed put (accepted cases)) x.back.history x.back.history

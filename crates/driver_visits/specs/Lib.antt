@@ -4,4 +4,5 @@ pub mod Earlier
 pub mod Filed
 pub mod Printed
 pub mod Runs
+pub mod Tried
 pub mod Visits

@@ -26,6 +26,7 @@ use Rattle.driver_visits.specs.declared.crashed.AfterCrash.TheVariants as left
 use Rattle.driver_visits.specs.Visits.{turn_of}
 use Rattle.driver_visits.specs.Earlier.{CrashesLeave, EarlierUses}
 use Rattle.driver_visits.specs.Printed.{IsReportOf}
+use Rattle.driver_visits.specs.Tried.{TriedLast}
 
 -- A crash while the worksheet is opened leaves what was there, on a disk that was restarted.
 abbrev pub OpeningLeaves : DiskView → History → Type 0
@@ -53,13 +54,14 @@ pub record LeavesPrinted {A C K : Type 0} (R : Rules A C K) (first last : Progra
   pub sink : K
   pub tries : Tries R.sink there.sink there.disk (printed_text R.sink.voice there.world r) true sink
   pub unreported : List Event
+  pub tried : TriedLast R (first_place first it.opened) (ask ∷ []) it.steps unreported
   pub since : CrashesLeave first.disk e (run_reporting it.steps unreported done) there.disk.history last.disk.history
 
 -- A crash at any moment of a run that opened the worksheet leaves the worksheet after a prefix of its events, which has all that was printed by then;
 -- and what is opened on the disk that the run gave back is the worksheet with all that it reported.
 pub record LeavesPrefix {A C K D : Type 0} (R : Rules A C K) (first last : ProgramParts A C K) (answer : Result (Unit {0}) RunFault) (opened : Result HostView (OpenFault D)) (it : RanOver R first last answer) (e : EarlierUses first.disk) : Type 0 where
-  -- events that it took last, of which nothing was reported
   pub unreported : List Event
+  pub tried : TriedLast R (first_place first it.opened) (ask ∷ []) it.steps unreported
   pub opening : OpeningLeaves first.disk it.opened.now.history
   pub within : CrashesLeave first.disk e (unknown_reports (turn_of it.steps unreported)) it.opened.now.history last.disk.history
   pub printed_is : (done rest : List RunStep) (r : Report) → it.steps ≡ done ++ printed r ∷ rest → LeavesPrinted R first last answer it e done r
@@ -97,6 +99,7 @@ pub record OpensCrashed {D : Type 0} (choice : Choice) (disk : DiskView) (opened
 -- where it had been opened by then, the worksheet after a prefix of the run's events, which has all that had been printed.
 pub record OpensAfterCrash {A C K D : Type 0} (R : Rules A C K) (first last : ProgramParts A C K) (answer : Result (Unit {0}) RunFault) (it : RanOver R first last answer) (moment : ℕ) (after : Image) (opened : Result HostView (OpenFault D)) (e : EarlierUses first.disk) : Type 0 where
   pub unreported : List Event
+  pub tried : TriedLast R (first_place first it.opened) (ask ∷ []) it.steps unreported
   pub opening : IsRestarted (bytes_on first.disk) first.disk → length first.disk.history.past ≤ moment → moment ≤ length it.opened.now.history.past
       → OpensSo first.disk.room e.ops e.image after e.acts opened
   pub within : length it.opened.now.history.past ≤ moment → OpensSo first.disk.room e.ops e.image after (e.acts ++ unknown_reports (turn_of it.steps unreported) ∷ []) opened

@@ -14,17 +14,19 @@ use Rattle.driver.specs.Place.{RunPlace, Rules, Tries}
 use Rattle.driver.specs.Steps.{Run}
 use Rattle.driver.specs.Laws.{trace}
 use Rattle.driver.specs.Over.{ProgramParts, RanOver, first_place}
+use Rattle.driver_visits.specs.Tried.{TriedLast}
 
 -- the events of a run's trace, and these, of which nothing was reported
 abbrev pub turn_of : List RunStep → List Event → HostTurn
 turn_of steps unreported = record { events = events_of (trace steps) ++ unreported; reported = outcomes_of (trace steps) }
 
--- It is a visit: the opening changed no byte and left no image that is new, at its end all that is in its trace is durable, and of these last events nothing
--- was reported.
+-- It is a visit: the opening changed no byte and left no image that is new, at its end all that is in its trace is durable, and of the events that it tried last
+-- nothing was reported.
 pub record EndsAsVisit {A C K : Type 0} (R : Rules A C K) (first last : ProgramParts A C K) (answer : Result (Unit {0}) RunFault) (it : RanOver R first last answer) : Type 0 where
   pub unreported : List Event
   pub visit : Visit (bytes_on first.disk) first.disk (turn_of it.steps unreported) last.disk
   pub looks : Looks first.disk.history visit.now.history
+  pub tried : TriedLast R (first_place first it.opened) (ask ∷ []) it.steps unreported
 
 -- Whatever is driven over a disk that keeps the model, by these rules, is a visit.
 abbrev pub DrivenIsVisit : {A C K : Type 0} → (R : Rules A C K) → Type 0
@@ -37,6 +39,7 @@ DrivenIsVisit {A = A} {C = C} {K = K} R = (first last : ProgramParts A C K) (ans
 pub record DurableAt {A C K : Type 0} (R : Rules A C K) (first last : ProgramParts A C K) (answer : Result (Unit {0}) RunFault) (it : RanOver R first last answer) (before : List RunStep) (r : Report) : Type 0 where
   pub unreported : List Event
   pub visit : Visit (bytes_on first.disk) first.disk (turn_of it.steps unreported) last.disk
+  pub tried : TriedLast R (first_place first it.opened) (ask ∷ []) it.steps unreported
   pub there : RunPlace A C K
   pub to_do : List Item
   pub ran : Run R (first_place first it.opened) (ask ∷ []) before to_do there

@@ -1,5 +1,5 @@
 -- A field, with one op more.
-use Rattle.std.proofs.Common.{◌≡◌, ◌⊎◌, inl, inr, ◌<◌, ℕ, List, [], ◌∷◌, ◌++◌, refl, ap, sym, ◌∙◌, arith, append-nil, Bool, true, false, Option, Some, None}
+use Rattle.std.proofs.Common.{◌≡◌, ◌⊎◌, inl, inr, ◌<◌, ℕ, List, [], ◌∷◌, ◌++◌, refl, ap, sym, subst, ◌∙◌, arith, append-nil, Bool, true, false, Option, Some, None}
 use Rattle.std.specs.Prelude.{if◌then◌else◌, ◌==◌, is_some}
 use Rattle.std.proofs.lemmas.Bool.Decides.{nat_tests}
 use Rattle.block_tree.specs.Tree.{Tree}
@@ -69,23 +69,51 @@ spares id (op.Answer other prompt output) h = tt
 spares id (op.Lost other why) h = tt
 spares id (op.Ids number) h = tt
 
-same_input : (id next : ℕ) (o : Op) (f : Field) → KeepsInput id o → (next == id) ≡ false → is_about id next o ≡ true → (changed o f).input ≡ f.input
-same_input id next (op.Session name tab words) f h n a = refl
-same_input id next (op.New after session input) f h n a = absurd (let no : true ≡ false = sym a ∙ n in cc)
-same_input id next (op.Set other input) f h n a = absurd (let no : true ≡ false = sym a ∙ h in cc)
-same_input id next (op.Remove other) f h n a = refl
-same_input id next (op.Move other after) f h n a = refl
-same_input id next (op.Clear other) f h n a = refl
-same_input id next (op.Answer other prompt output) f h n a = refl
-same_input id next (op.Lost other why) f h n a = refl
-same_input id next (op.Ids number) f h n a = refl
+-- it is in its session, and has its input
+abbrev SameLine : Field → Field → Type 0
+SameLine f g = (f.session ≡ g.session) × (f.input ≡ g.input)
 
-input_still : (os : List Op) (o : Op) (id : ℕ) → KeepsInput id o → (next_of os == id) ≡ false → (field_of (os ++ o ∷ []) id).input ≡ (field_of os id).input
-input_still os o id h n = ap (λ (f : Field). f.input) (field_of-push os o id) ∙ go (is_about id (next_of os) o) refl
+same_line : (id next : ℕ) (o : Op) (f : Field) → KeepsInput id o → (next == id) ≡ false → is_about id next o ≡ true → SameLine (changed o f) f
+same_line id next (op.Session name tab words) f h n a = (refl, refl)
+same_line id next (op.New after session input) f h n a = absurd (let no : true ≡ false = sym a ∙ n in cc)
+same_line id next (op.Set other input) f h n a = absurd (let no : true ≡ false = sym a ∙ h in cc)
+same_line id next (op.Remove other) f h n a = (refl, refl)
+same_line id next (op.Move other after) f h n a = (refl, refl)
+same_line id next (op.Clear other) f h n a = (refl, refl)
+same_line id next (op.Answer other prompt output) f h n a = (refl, refl)
+same_line id next (op.Lost other why) f h n a = (refl, refl)
+same_line id next (op.Ids number) f h n a = (refl, refl)
+
+line_still : (os : List Op) (o : Op) (id : ℕ) → KeepsInput id o → (next_of os == id) ≡ false → SameLine (field_of (os ++ o ∷ []) id) (field_of os id)
+line_still os o id h n = subst (λ (f : Field). SameLine f (field_of os id)) (sym (field_of-push os o id)) (go (is_about id (next_of os) o) refl)
   where
-    go : (b : Bool) → is_about id (next_of os) o ≡ b → (if b then changed o (field_of os id) else field_of os id).input ≡ (field_of os id).input
-    go true e = same_input id (next_of os) o (field_of os id) h n e
-    go false e = refl
+    go : (b : Bool) → is_about id (next_of os) o ≡ b → SameLine (if b then changed o (field_of os id) else field_of os id) (field_of os id)
+    go true e = same_line id (next_of os) o (field_of os id) h n e
+    go false e = (refl, refl)
+
+-- the field with this number, with one op more
+pub record Following (os : List Op) (o : Op) (id : ℕ) (f : Field) : Type 0 where
+  pub field : Field
+  pub found : field_in (sheet_of (os ++ o ∷ [])).fields id ≡ Some field
+  pub same : SameLine field f
+
+line_follows : (os : List Op) (o : Op) (id : ℕ) (f : Field) → Allowed os → first_refusal (sheet_of os) o ≡ None → KeepsInput id o → field_in (sheet_of os).fields id ≡ Some f → Following os o id f
+line_follows os o id f allowed next keeps there = go (field_in (sheet_of (os ++ o ∷ [])).fields id) refl
+  where
+    has : has_field (sheet_of (os ++ o ∷ [])) id ≡ true
+    has = has_still os o id allowed next (spares id o keeps) (ap (λ (x : Option Field). is_some x) there)
+
+    go : (x : Option Field) → field_in (sheet_of (os ++ o ∷ [])).fields id ≡ x → Following os o id f
+    go None e = absurd (let no : false ≡ true = sym (ap (λ (y : Option Field). is_some y) e) ∙ has in cc)
+    go (Some g) e =
+        let was = is_there os id f allowed there in
+        let now = is_there (os ++ o ∷ []) id g (allowed_goes_on os o allowed next) e in
+        let still = line_still os o id keeps (not_next os id f allowed there) in
+        record {
+          field = g;
+          found = e;
+          same = subst (λ (y : Field). SameLine g y) was.is (subst (λ (y : Field). SameLine y (field_of os id)) now.is still);
+        }
 
 -- a field of this number, with this input
 pub record HasInput (os : List Op) (id : ℕ) (text : List ℕ) : Type 0 where
@@ -94,21 +122,21 @@ pub record HasInput (os : List Op) (id : ℕ) (text : List ℕ) : Type 0 where
   pub input : field.input ≡ text
 
 pub input_stays : (os : List Op) (o : Op) (id : ℕ) (text : List ℕ) → Allowed os → first_refusal (sheet_of os) o ≡ None → KeepsInput id o → HasInput os id text → HasInput (os ++ o ∷ []) id text
-input_stays os o id text allowed next keeps h = go (field_in (sheet_of (os ++ o ∷ [])).fields id) refl
-  where
-    has : has_field (sheet_of (os ++ o ∷ [])) id ≡ true
-    has = has_still os o id allowed next (spares id o keeps) (ap (λ (f : Option Field). is_some f) h.found)
+input_stays os o id text allowed next keeps h =
+    let now = line_follows os o id h.field allowed next keeps h.found in
+    record { field = now.field; found = now.found; input = now.same.1 ∙ h.input }
 
-    go : (f : Option Field) → field_in (sheet_of (os ++ o ∷ [])).fields id ≡ f → HasInput (os ++ o ∷ []) id text
-    go None e = absurd (let no : false ≡ true = sym (ap (λ (f : Option Field). is_some f) e) ∙ has in cc)
-    go (Some g) e =
-        let was = is_there os id h.field allowed h.found in
-        let now = is_there (os ++ o ∷ []) id g (allowed_goes_on os o allowed next) e in
-        record {
-          field = g;
-          found = e;
-          input = ap (λ (f : Field). f.input) (sym now.is) ∙ input_still os o id keeps (not_next os id h.field allowed h.found) ∙ ap (λ (f : Field). f.input) was.is ∙ h.input;
-        }
+-- a field with the number of this one, in its session and with its input
+pub record HasItsLine (os : List Op) (f : Field) : Type 0 where
+  pub field : Field
+  pub found : field_in (sheet_of os).fields f.id ≡ Some field
+  pub session : field.session ≡ f.session
+  pub input : field.input ≡ f.input
+
+pub its_line_stays : (os : List Op) (o : Op) (f : Field) → Allowed os → first_refusal (sheet_of os) o ≡ None → KeepsInput f.id o → HasItsLine os f → HasItsLine (os ++ o ∷ []) f
+its_line_stays os o f allowed next keeps h =
+    let now = line_follows os o f.id h.field allowed next keeps h.found in
+    record { field = now.field; found = now.found; session = now.same.0 ∙ h.session; input = now.same.1 ∙ h.input }
 
 -- The op answers the field, which is as before but for its answer.
 pub record AnsweredBy (os : List Op) (o : Op) (g : Field) : Type 0 where

@@ -30,4 +30,5 @@ pub mod InFlight
 pub mod ApartAdds
 pub mod OwnReplies
 pub mod Reported
+pub mod Saying
 pub mod Joined

@@ -2,6 +2,7 @@
 use Rattle.std.specs.Prelude.{◌≡◌, ◌⊎◌, ◌==◌, ℕ, suc, false, List, [], ◌∷◌, ◌++◌, length, Option, Some, drop, slice_get, Result, IfOk, IfErr}
 use Rattle.std.specs.List.{AllByRecursion}
 use Rattle.block_tree.specs.Output.{output}
+use Rattle.block_tree.specs.Tree.{Tree}
 use Rattle.meta_format.specs.Stream.{Outer}
 use Rattle.meta_format.specs.Faults.{Kind}
 use Rattle.disk_model.specs.Disk.{DiskView, Image, InModel, Leaves, LeavesOnly}
@@ -232,6 +233,11 @@ ReportedAnswersStay = (room : ℕ) (first : List Op) (before after : Image) (tur
     → (earlier later : List HostStep) (s : HostStep) (id : ℕ) (o : Outcome) → left.steps ≡ earlier ++ s ∷ later
     → Gives s.before s.event o s.following → SaysAnswered id o → AllByRecursion (StepLeavesField id) later
     → (f : Field) × (f.id ≡ id) × ClosesAnswer s.before s.event f × KeepField f (s ∷ later) × Has (sheet_of left.kept) f
+
+-- Where an event puts an answer into a field, its outcome says that the line of that field was answered.
+abbrev pub AnswersAreReported : Type 0
+AnswersAreReported = (w v : World) (e : Event) (o : Outcome) → Gives w e o v
+    → (id : ℕ) (prompt : List ℕ) (out : Tree) → v.ops ≡ w.ops ++ op.Answer id prompt out ∷ [] → SaysAnswered id o
 
 -- Where an evaluation was accepted, what its field shows from there on, while this host runs, is what a whole block answered to a line
 -- after it, or nothing, also where it was Stopped or its interpreter ended first.

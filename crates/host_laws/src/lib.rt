@@ -6,7 +6,7 @@ ghost use Rattle.host_laws.specs.Apart.{OthersAreSilent, SessionsAreIndependent,
 ghost use Rattle.host_laws.specs.Calls.{CallsLeavePrefixes};
 ghost use Rattle.host_laws.specs.OneHost.{StepsLeavePrefixes};
 ghost use Rattle.host_laws.specs.Together.{GroupsAreTurns, GroupsUpToAreTurns};
-ghost use Rattle.host_laws.specs.Turns.{EvaluatedAgain, EvaluatedAgainInTurn, HostsInTurn, PlaysAreTurns, ReportedAnswersStay, StepsAreTurns};
+ghost use Rattle.host_laws.specs.Turns.{AnswersAreReported, EvaluatedAgain, EvaluatedAgainInTurn, HostsInTurn, PlaysAreTurns, ReportedAnswersStay, StepsAreTurns};
 ghost use Rattle.host_laws.specs.Laws.{AnEventDoesOneThing, EachCommandHasAReply, EachEventHasAnOutcome, NothingIsShownInFlight, NothingOfAnEndedLife, NumbersAreGivenOnce, OutcomesLeadToOneWorld};
 
 mod made;
@@ -84,6 +84,11 @@ pub fn calls_leave_prefixes()
 /// keeps a reason for it.
 pub fn reported_answers_stay()
     ensures { ReportedAnswersStay }
+{}
+
+/// Where an event puts an answer into a field, its outcome says that the line of that field was answered.
+pub fn answers_are_reported()
+    ensures { AnswersAreReported }
 {}
 
 /// What a field shows after an accepted evaluation of it is what a whole block answered after it, or

@@ -49,7 +49,7 @@ field_checked o number field s h c a b counts after j some p place is =
 
 -- Fields.
 
-pub fields-more : {C : Type 0} (o : OneByOne C) (gone : List Field) (field : Field) (s : At C) (cases : List Case) (mid : At C) (more : List Case) (t : At C)
+unfoldable pub fields-more : {C : Type 0} (o : OneByOne C) (gone : List Field) (field : Field) (s : At C) (cases : List Case) (mid : At C) (more : List Case) (t : At C)
     → FieldsChecked o.way o.chosen gone s cases mid → FieldChecked o.way o.chosen field mid more t → FieldsChecked o.way o.chosen (gone ++ field ∷ []) s (cases ++ more) t
 fields-more o [] field s cases mid more t h p = (
   t,

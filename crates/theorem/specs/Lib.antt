@@ -1,3 +1,4 @@
 pub mod Story
 pub mod Programs
+pub mod Copies
 pub mod Acts
