@@ -131,9 +131,9 @@ IDs, no --from and no --unanswered.\n\n\
 Prose is passed over and not counted, but where its ID is given: fields of a\n\
 session whose program is `true` alone.\n\n\
 With --strict it stops after the first field that is lost or refused: the fields\n\
-after it keep what they show, and standard error has `stopped at line N`, where the\n\
-Nth field that is evaluated has the lines 2N - 1 and 2N. With --stop-at-error it\n\
-does so, and also after a field whose answer its interpreter marks as an error.\n\n\
+after it keep what they show, and standard error has `stopped at field ID`. With\n\
+--stop-at-error it does so, and also after a field whose answer its interpreter\n\
+marks as an error.\n\n\
 Where a field shows no answer, since its interpreter ended or didn't start, the\n\
 later ones of its session are passed over: they keep what they show. With\n\
 --keep-going none is passed over, and the next one starts another interpreter.\n\n\

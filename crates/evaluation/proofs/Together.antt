@@ -13,7 +13,7 @@ use Rattle.child_calls.specs.declared.seat.Seat.{Seat}
 use Rattle.child_edge.specs.Seats.{life_view, seat, seat_of, seats_of, waits}
 use Rattle.evaluation.specs.declared.plan.Plan.{Plan}
 use Rattle.evaluation.specs.declared.plan.Stand.{Stand}
-use Rattle.evaluation.specs.Meant.{IsAsked, is_passed, stop_line}
+use Rattle.evaluation.specs.Meant.{IsAsked, is_passed, stop_field}
 use Rattle.evaluation.specs.Beside.{NoneJoins, has_room_beside, is_busy, is_waiting_one, joins}
 use Rattle.evaluation.specs.inside.Beside.{NoneBetween, SeatsLeft, is_due, one_if}
 use Rattle.evaluation.proofs.Meaning.{next_here}
@@ -87,9 +87,9 @@ is_not false h = refl
 -- the first field that wasn't taken is the next where it is due
 pub due_asked : (plan : Plan) (fields : List Field) (meant : List ℕ) (stand : Stand) (id : ℕ) → slice_get meant stand.taken ≡ Some id → is_due plan fields meant stand ≡ true → IsAsked plan fields meant stand stand.taken id
 due_asked plan fields meant stand id there due =
-    let both = and_parts (not (is_some (stop_line plan fields stand))) (not (is_passed plan fields stand.lasts meant stand.taken)) due in
+    let both = and_parts (not (is_some (stop_field plan fields stand))) (not (is_passed plan fields stand.lasts meant stand.taken)) due in
     record {
-      goes_on = none_is (stop_line plan fields stand) both.0;
+      goes_on = none_is (stop_field plan fields stand) both.0;
       next = next_here plan fields stand.lasts meant stand.taken;
       there = there;
       asked = is_not (is_passed plan fields stand.lasts meant stand.taken) both.1;

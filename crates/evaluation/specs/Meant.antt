@@ -1,5 +1,5 @@
 -- Which fields are evaluated, which of them are passed over, and what an evaluation comes to. (docs/use/EVAL.md.)
-use Rattle.std.specs.Prelude.{◌≡◌, ◌==◌, ◌<◌, ◌≤◌, ◌-◌, ◌*◌, ◌&&◌, ◌||◌, ℕ, Bool, true, false, not, List, [], ◌∷◌, Option, Some, None, codes, count_by, filter, find, if◌then◌else◌, is_some, length, map, nat_lt, slice_get}
+use Rattle.std.specs.Prelude.{◌≡◌, ◌==◌, ◌<◌, ◌≤◌, ◌-◌, ◌&&◌, ◌||◌, ℕ, Bool, true, false, not, List, [], ◌∷◌, Option, Some, None, codes, count_by, filter, find, if◌then◌else◌, is_some, length, map, nat_lt, slice_get}
 use Rattle.std.specs.List.{list_any}
 use Rattle.std.specs.Str.{bytes_eq}
 use Rattle.worksheet.specs.Checks.{field_in, session_named}
@@ -134,10 +134,6 @@ is_passed plan fields lasts meant k = passes plan fields lasts (field_at fields 
 abbrev pub IsNext : Plan → List Field → List Last → List ℕ → ℕ → ℕ → Type 0
 IsNext plan fields lasts meant from at = (from ≤ at) × ((k : ℕ) → from ≤ k → k < at → is_passed plan fields lasts meant k ≡ true)
 
--- The number of the line that asks for the last of so many fields; that of its wait is the next one.
-abbrev pub line_after : ℕ → ℕ
-line_after taken = 2 * taken - 1
-
 -- Whether a field went wrong: it shows no answer, or one that is an error where that is wrong too.
 abbrev pub is_wrong_answer : Bool → Option Answer → Bool
 is_wrong_answer at_errors None = true
@@ -147,34 +143,25 @@ abbrev pub is_wrong_field : Bool → Option Field → Bool
 is_wrong_field at_errors None = false
 is_wrong_field at_errors (Some field) = is_wrong_answer at_errors field.answer
 
--- The line of the last field, where that went wrong: no item waited after its `eval`, or it shows no answer, or an error that is asked for.
-abbrev pub wrong_line : Bool → List Field → Stand → Option ℕ
-wrong_line at_errors fields stand = wrong_by stand.at_once (is_wrong_field at_errors (field_in fields stand.field)) stand.taken
-  where
-    wrong_by : Bool → Bool → ℕ → Option ℕ
-    wrong_by true lost taken = Some (line_after taken)
-    wrong_by false true taken = Some (2 * taken)
-    wrong_by false false taken = None
+-- Whether the field that was asked last went wrong: no item waited after its `eval`, or it shows no answer, or an error where that is wrong too.
+abbrev pub last_went_wrong : Bool → List Field → Stand → Bool
+last_went_wrong at_errors fields stand = stand.at_once || is_wrong_field at_errors (field_in fields stand.field)
 
--- the line after which a strict evaluation stops here, if it does
-abbrev pub line_if : Bool → Option ℕ → Option ℕ
-line_if false line = None
-line_if true line = line
-
-abbrev pub stop_line : Plan → List Field → Stand → Option ℕ
-stop_line plan fields stand = line_if plan.strict (wrong_line plan.at_errors fields stand)
+-- the number of the field after which a strict evaluation stops where no item waits any more, if it does
+abbrev pub stop_field : Plan → List Field → Stand → Option ℕ
+stop_field plan fields stand = if plan.strict && last_went_wrong plan.at_errors fields stand then Some stand.field else None
 
 -- The field at this place, which has this number, is asked next: it isn't passed over, all from the last one on are, and a strict evaluation
 -- doesn't stop here.
 pub record IsAsked (plan : Plan) (fields : List Field) (meant : List ℕ) (stand : Stand) (k id : ℕ) : Type 0 where
-  pub goes_on : stop_line plan fields stand ≡ None
+  pub goes_on : stop_field plan fields stand ≡ None
   pub next : IsNext plan fields stand.lasts meant stand.taken k
   pub there : slice_get meant k ≡ Some id
   pub asked : is_passed plan fields stand.lasts meant k ≡ false
 
--- It comes to its end here: a strict one stops after this line, or all fields that are to come are passed over.
+-- It comes to its end here: a strict one stops after this field, or all fields that are to come are passed over.
 pub record EndsHere (plan : Plan) (fields : List Field) (meant : List ℕ) (stand : Stand) (stopped : Option ℕ) : Type 0 where
-  pub is : stopped ≡ stop_line plan fields stand
+  pub is : stopped ≡ stop_field plan fields stand
   pub all : stopped ≡ None → IsNext plan fields stand.lasts meant stand.taken (length meant)
 
 -- whether it is said how many fields were over and passed over, of which so many weren't asked: with a limit of time, and without one where some were passed

@@ -86,35 +86,19 @@ pub fn next_of(plan: &Plan, sheet: &Sheet, lasts: &[Last], ids: &[u32], from: us
     ids.len()
 }
 
-/// The number of the line that asks for the last of so many fields.
-pub(crate) fn line_after(taken: usize) -> u64
-    requires { taken < 2 ^ 32 }
-    ensures { result ≡ meant.line_after taken }
+/// Whether the field that was asked last went wrong.
+fn last_went_wrong(at_errors: bool, sheet: &Sheet, stand: &Stand) -> bool
+    ensures { result ≡ meant.last_went_wrong at_errors sheet.now.contents.fields stand.now }
 {
-    (taken as u64 * 2).saturating_sub(1)
+    stand.at_once || is_wrong_field(at_errors, sheet.field(stand.field))
 }
 
-/// The line of the field that was asked last, where that went wrong.
-fn wrong_line(at_errors: bool, sheet: &Sheet, stand: &Stand) -> Option<u64>
-    requires { stand.now.taken < 2 ^ 32 }
-    ensures { result ≡ meant.wrong_line at_errors sheet.now.contents.fields stand.now }
+/// The number of the field after which a strict evaluation stops here, if it does.
+pub fn stop_field(plan: &Plan, sheet: &Sheet, stand: &Stand) -> Option<u32>
+    ensures { result ≡ meant.stop_field plan.now sheet.now.contents.fields stand.now }
 {
-    if stand.at_once {
-        Some(line_after(stand.taken))
-    } else if is_wrong_field(at_errors, sheet.field(stand.field)) {
-        Some(stand.taken as u64 * 2)
-    } else {
-        None
-    }
-}
-
-/// The line after which a strict evaluation stops here, if it does.
-pub fn stop_line(plan: &Plan, sheet: &Sheet, stand: &Stand) -> Option<u64>
-    requires { stand.now.taken < 2 ^ 32 }
-    ensures { result ≡ meant.stop_line plan.now sheet.now.contents.fields stand.now }
-{
-    if plan.strict {
-        wrong_line(plan.at_errors, sheet, stand)
+    if plan.strict && last_went_wrong(plan.at_errors, sheet, stand) {
+        Some(stand.field)
     } else {
         None
     }
@@ -126,7 +110,7 @@ pub(crate) fn is_due(plan: &Plan, sheet: &Sheet, ids: &[u32], stand: &Stand) -> 
     requires there { stand.now.taken < length ids.now }
     ensures { result ≡ inside.is_due plan.now sheet.now.contents.fields ids.now stand.now }
 {
-    stop_line(plan, sheet, stand).is_none()
+    stop_field(plan, sheet, stand).is_none()
         && !is_passed(plan, sheet, stand.lasts.as_slice(), ids, stand.taken)
 }
 

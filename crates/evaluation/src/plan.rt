@@ -78,9 +78,8 @@ pub struct Stand {
 /// Where an evaluation came to its end.
 #[derive(Clone, Copy, Debug, PartialEq, Eq)]
 pub struct EvalEnd {
-    /// The number of the line after which it stopped, where it did: 2N - 1 and 2N are those of the field
-    /// that is the Nth of those to be evaluated.
-    pub stopped_at: Option<u64>,
+    /// The number of the field after which it stopped, where it did.
+    pub stopped_after: Option<u32>,
     /// What it came to.
     pub counts: Counts,
 }

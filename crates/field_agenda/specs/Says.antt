@@ -52,10 +52,10 @@ pub data AsksFrom {P : Type 0} (a : ByFields P) (w : World) (k id : ℕ) (r : Re
       → b ≡ does_at a doing.Ask (asked_together a.stand k (sheet_in w).fields (asked_with a w k id)) → AsksFrom a w k id r b
   unasked : r ≡ Err fault.OutOfMemory → b ≡ a → AsksFrom a w k id r b
 
--- It comes to its end here, after that line where a strict one stops: what it came to is printed. Or the worksheet has more fields than are counted.
+-- It comes to its end here, after that field where a strict one stops: what it came to is printed. Or the worksheet has more fields than are counted.
 pub data ComesToItsEnd {P : Type 0} (a : ByFields P) (w : World) (stopped : Option ℕ) (r : Result Action RunFault) (b : ByFields P) : Type 0 where
   ends_with : (counts : Counts) → counts ≡ evaluation_counts a.plan (length a.ids) (sheet_in w) a.stand → r ≡ Ok (action.Show (show.Note (note.Counted counts)))
-      → b ≡ at_stage a (stage.Counted (record { stopped_at = stopped; counts = counts })) → ComesToItsEnd a w stopped r b
+      → b ≡ at_stage a (stage.Counted (record { stopped_after = stopped; counts = counts })) → ComesToItsEnd a w stopped r b
   too_many_fields : 2 ^ 31 ≤ length (sheet_in w).fields → r ≡ Err fault.InputTooLong → b ≡ a → ComesToItsEnd a w stopped r b
 
 -- The field that is the nth of those to be evaluated, with this number, is the one whose interpreter is interrupted now: the first whose time is over by

@@ -15,7 +15,7 @@ use block_tree::Sequence;
 use child_edge::MOST_TOGETHER;
 use disk_model::Disk;
 use evaluation::Plan;
-use evaluation::asking::{id_at, is_passed_over, next_of, stop_line};
+use evaluation::asking::{id_at, is_passed_over, next_of, stop_field};
 use evaluation::beside::{is_session_busy, wait_in_fewer};
 use evaluation::lasts::{Last, after_asking};
 use evaluation::plan::Stand;
@@ -207,7 +207,7 @@ pub(crate) fn next_asked(plan: &Plan, sheet: &Sheet, ids: &[u32], stand: &Stand)
     ensures ends { result ≡ None → (stopped : Option ℕ)
         × EndsHere plan.now sheet.now.contents.fields ids.now stand.now stopped }
 {
-    if stop_line(plan, sheet, stand).is_some() {
+    if stop_field(plan, sheet, stand).is_some() {
         return None;
     }
     let at = next_of(plan, sheet, stand.lasts.as_slice(), ids, stand.taken);

@@ -27,7 +27,7 @@ use child_calls::Seat;
 use child_edge::Interrupted;
 use disk_model::Disk;
 use driver::{Action, Agenda, Came, Show};
-use evaluation::asking::stop_line;
+use evaluation::asking::stop_field;
 use evaluation::beside::{Late, joining};
 use evaluation::plan::{Stand, counts_of};
 use evaluation::{EvalEnd, Plan, Programs};
@@ -179,10 +179,13 @@ impl<P: Programs> ByFields<P> {
         if !has_few_fields(sheet) {
             return Err(RunFault::InputTooLong);
         }
-        let stopped_at = stop_line(&self.plan, sheet, &self.stand);
+        let stopped_after = stop_field(&self.plan, sheet, &self.stand);
         let all = self.ids.as_slice().len();
         let counts = counts_of(&self.plan, all as u64, sheet, &self.stand);
-        self.stage = Stage::Counted(EvalEnd { stopped_at, counts });
+        self.stage = Stage::Counted(EvalEnd {
+            stopped_after,
+            counts,
+        });
         Ok(Action::Show(Show::Note(Note::Counted(counts))))
     }
 

@@ -22,7 +22,7 @@ use Rattle.program_endings.specs.Faults.{no_files}
 use Rattle.program_endings.specs.LiveProgram.{LastReported}
 use Rattle.program_endings.specs.declared.ending.Ending.{Ending}
 use Rattle.tellings.specs.Json.{in_json}
-use Rattle.tellings.specs.declared.note.Boundary.TheVariants as frame
+use Rattle.tellings.specs.declared.note.Boundary.TheVariants as boundary
 use Rattle.program_endings.specs.Records.{DoesNothing, ProgramPassage, ProgramRun, Writing, run_on, run_since, run_until, text_before, view_given}
 use Rattle.program_endings.specs.declared.check_program.CheckEnding.{CheckEnding}
 use Rattle.sheet_files.specs.declared.files_fault.FilesFault.{FilesFault}
@@ -61,7 +61,7 @@ answer_of_check chosen (Err why) = Err why
 abbrev pub LastInJson : {W : Type 0} → Writing W → Bool → CheckedAnswer → Type 0
 LastInJson w reported (Ok passed) = w.new ≡ w.old
 LastInJson w reported (Err (checks.Run why)) = LastReported {T = Bool} in_json w.contents w.old w.new reported (Err why)
-LastInJson w reported (Err (checks.NoField id)) = FramedLast in_json w.contents w.old w.new reported (frame.NoField id)
+LastInJson w reported (Err (checks.NoField id)) = FramedLast in_json w.contents w.old w.new reported (boundary.NoField id)
 
 abbrev pub LastOfCheck : {W : Type 0} → ReportFormat → Writing W → Bool → CheckedAnswer → Type 0
 LastOfCheck format.Json w reported answer = LastInJson w reported answer

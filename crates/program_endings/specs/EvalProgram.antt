@@ -7,7 +7,7 @@ use Rattle.offline_programs.specs.declared.fault.RunFault.{RunFault}
 use Rattle.tellings.specs.Voice.{Voice}
 use Rattle.tellings.specs.declared.note.Counts.{Counts}
 use Rattle.tellings.specs.declared.note.Boundary.{Boundary}
-use Rattle.tellings.specs.declared.note.Boundary.TheVariants as frame
+use Rattle.tellings.specs.declared.note.Boundary.TheVariants as boundary
 use Rattle.tellings.specs.declared.note.Overs.{Overs}
 use Rattle.driver.specs.Noted.{PrintedSoFar, noting_rules, printed_so_far}
 use Rattle.driver.specs.Over.{Over, program_parts}
@@ -26,11 +26,11 @@ use Rattle.field_agenda.specs.declared.by_fields.ByFields.{ByFields}
 use Rattle.field_agenda.specs.declared.stage.Stage.{Stage}
 use Rattle.field_agenda.specs.declared.stage.Stage.TheVariants as stage
 use Rattle.program_endings.specs.LiveProgram.{FrameWithheld, EndsFaulted, FaultReported, Framed, LastReported}
-use Rattle.program_endings.specs.StrictProgram.{TellsStop}
+use Rattle.program_endings.specs.StrictProgram.{stopped_after_text}
 use Rattle.program_endings.specs.Records.{ProgramPassage, ProgramRun, Streams, run_on, run_since, run_until, streams, text_after, text_before, view_given}
 use Rattle.program_endings.specs.declared.ending.Ending.{Ending}
 
--- what the program answers: where the evaluation stopped, if it did, and what it came to; or its fault
+-- what the program answers: after which field the evaluation stopped, if it did, and what it came to; or its fault
 abbrev pub EvaluationAnswer : Type 0
 EvaluationAnswer = Result EvalEnd EvalFault
 
@@ -45,15 +45,20 @@ counts_status counts = if (counts.unanswered == 0) && are_none_over counts.overs
 
 abbrev pub status_of_end : Option ℕ → Counts → ℕ
 status_of_end None counts = counts_status counts
-status_of_end (Some number) counts = 3
+status_of_end (Some id) counts = 3
 
 abbrev pub evaluation_status : EvaluationAnswer → ℕ
-evaluation_status (Ok end) = status_of_end end.stopped_at end.counts
+evaluation_status (Ok end) = status_of_end end.stopped_after end.counts
 evaluation_status (Err why) = 1
 
--- Where it stopped is a line that is said on the stream of errors, as of `run --strict`, and so is a fault; nothing else stands there.
+-- After which field it stopped is a line that is said on the stream of errors; where it didn't, nothing is.
+abbrev pub TellsStopAfter : {E : Type 0} → Saying E → Bool → Option ℕ → Type 0
+TellsStopAfter errors reported None = errors.new ≡ errors.old
+TellsStopAfter errors reported (Some id) = IsSaid errors (stopped_after_text id) reported
+
+-- so is a fault
 abbrev pub TellsEval : {E : Type 0} → Saying E → Bool → EvaluationAnswer → Type 0
-TellsEval errors reported (Ok end) = TellsStop errors reported (Ok end.stopped_at)
+TellsEval errors reported (Ok end) = TellsStopAfter errors reported end.stopped_after
 TellsEval errors reported (Err why) = IsSaid errors (eval_fault_text why) reported
 
 -- How fields are evaluated: by which plan, with which programs and how a look for one may be answered, the voice of what is printed, and what the output
@@ -100,15 +105,15 @@ FramedLast V contents old new reported last = (V.takes_memory ≡ false → new 
 
 -- That the evaluation came to its end is printed last; or it couldn't be, and that is the fault, which is printed last.
 pub data LastOfEnd {O E : Type 0} (V : Voice) (s : Streams O E) (ending : Ending) (end : EvalEnd) : Type 0 where
-  ended : Framed V s.output.contents frame.End s.output.old s.output.new → ending.status ≡ evaluation_status (Ok end) → TellsEval s.errors ending.reported (Ok end)
+  ended : Framed V s.output.contents boundary.End s.output.old s.output.new → ending.status ≡ evaluation_status (Ok end) → TellsEval s.errors ending.reported (Ok end)
       → LastOfEnd V s ending end
   unended : (why : RunFault) (mid : O) → FrameWithheld V s.output.old mid why → LastReported {T = Bool} V s.output.contents mid s.output.new ending.reported (Err why)
       → ending.status ≡ 1 → TellsEval s.errors ending.reported (Err (evals.Run why)) → LastOfEnd V s ending end
 
 -- A fault is printed last, where the voice has it and the run didn't print it, and is a line on the stream of errors.
 abbrev pub LastOfFault : {O E : Type 0} → Voice → Streams O E → Bool → Ending → EvalFault → Type 0
-LastOfFault V s whole ending (evals.NoField id) = FramedLast V s.output.contents s.output.old s.output.new ending.reported (frame.NoField id)
-LastOfFault V s whole ending (evals.NoProgram name) = FramedLast V s.output.contents s.output.old s.output.new ending.reported (frame.NoProgram name)
+LastOfFault V s whole ending (evals.NoField id) = FramedLast V s.output.contents s.output.old s.output.new ending.reported (boundary.NoField id)
+LastOfFault V s whole ending (evals.NoProgram name) = FramedLast V s.output.contents s.output.old s.output.new ending.reported (boundary.NoProgram name)
 LastOfFault V s whole ending (evals.Run why) = (said : Bool) × (ending.reported ≡ true → said ≡ true) × EndsFaulted V s.output whole said why
 
 -- What stands last after an evaluation that was answered so, of whose last text this is known, and how the program ends then.
@@ -123,7 +128,7 @@ EvaluationBegun {O = O} o r e ending = (last : O) × (whole : Bool) × (answer :
 
 -- The same from its greeting on.
 pub data EvaluationEnded {D C O P E : Type 0} (o : EvalSetting P) (r : ProgramRun D C O) (e : Saying E) (ending : Ending) : Type 0 where
-  greeted : (first : O) → Framed o.voice r.wrote.contents frame.Hello r.wrote.old first → EvaluationBegun o (run_since r first) e ending → EvaluationEnded o r e ending
+  greeted : (first : O) → Framed o.voice r.wrote.contents boundary.Hello r.wrote.old first → EvaluationBegun o (run_since r first) e ending → EvaluationEnded o r e ending
   -- it couldn't greet, and nothing was done but to close the disk
   ungreeted : (why : RunFault) (mid : O) → FrameWithheld o.voice r.wrote.old mid why → LastReported {T = Bool} o.voice r.wrote.contents mid r.wrote.new ending.reported (Err why)
       → ending.status ≡ 1 → TellsEval e ending.reported (Err (evals.Run why)) → r.called.new ≡ r.called.old → r.given.how.closed r.given.disk → EvaluationEnded o r e ending

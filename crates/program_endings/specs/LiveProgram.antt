@@ -15,7 +15,7 @@ use Rattle.offline_programs.specs.declared.fault.RunFault.TheVariants as fault
 use Rattle.sheet_files.specs.declared.files_fault.FilesFault.{FilesFault}
 use Rattle.tellings.specs.Voice.{IsWithheld, Voice}
 use Rattle.tellings.specs.declared.note.Boundary.{Boundary}
-use Rattle.tellings.specs.declared.note.Boundary.TheVariants as frame
+use Rattle.tellings.specs.declared.note.Boundary.TheVariants as boundary
 use Rattle.program_endings.specs.Ending.{EndsAs}
 use Rattle.program_endings.specs.Faults.{no_files}
 use Rattle.program_endings.specs.Records.{ProgramPassage, ProgramRun, Writing, run_on, run_since, run_until, text_after, text_before, view_given, writing}
@@ -88,7 +88,7 @@ Unframed {O = O} V w reported answer =
 
 -- after the end of its lines the voice's last message is printed
 abbrev pub EndsFramed : {O : Type 0} → Voice → Writing O → Bool → Option ℕ → StrictAnswer → Type 0
-EndsFramed V w reported stopped answer = (Framed V w.contents frame.End w.old w.new × (answer ≡ Ok stopped)) ⊎ Unframed V w reported answer
+EndsFramed V w reported stopped answer = (Framed V w.contents boundary.End w.old w.new × (answer ≡ Ok stopped)) ⊎ Unframed V w reported answer
 
 -- a fault was printed last by the run, or it is printed now
 abbrev pub FaultedBy : {O : Type 0} → Bool → Voice → Writing O → Bool → Bool → RunFault → Type 0
@@ -114,7 +114,7 @@ pub data LiveBegun {D C O : Type 0} (o : LiveSetting) (stream : Option (List ℕ
 
 -- The same from its greeting on.
 pub data LiveAnswer {D C O : Type 0} (o : LiveSetting) (stream : Option (List ℕ)) (r : ProgramRun D C O) (reported : Bool) (answer : StrictAnswer) : Type 0 where
-  greeted : (first : O) → Framed o.voice r.wrote.contents frame.Hello r.wrote.old first → LiveBegun o stream (run_since r first) reported answer → LiveAnswer o stream r reported answer
+  greeted : (first : O) → Framed o.voice r.wrote.contents boundary.Hello r.wrote.old first → LiveBegun o stream (run_since r first) reported answer → LiveAnswer o stream r reported answer
   -- it couldn't greet, and nothing was done but to close the disk
   ungreeted : Unframed o.voice r.wrote reported answer → r.called.new ≡ r.called.old → r.given.how.closed r.given.disk → LiveAnswer o stream r reported answer
 

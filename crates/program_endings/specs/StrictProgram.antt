@@ -18,6 +18,10 @@ strict_status (Err why) = 1
 abbrev pub stopped_text : ℕ → List ℕ
 stopped_text number = codes "stopped at line " ++ decimal number ++ 10 ∷ []
 
+-- the line that tells after which field an evaluation stopped
+abbrev pub stopped_after_text : ℕ → List ℕ
+stopped_after_text id = codes "stopped at field " ++ decimal id ++ 10 ∷ []
+
 -- where it stopped is a line that is said on the stream of errors, and so is a fault; nothing else stands there
 abbrev pub TellsStop : {E : Type 0} → Saying E → Bool → StrictAnswer → Type 0
 TellsStop errors reported (Ok None) = errors.new ≡ errors.old

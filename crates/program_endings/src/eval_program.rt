@@ -10,7 +10,7 @@ ghost use Rattle.program_endings.specs.Passing.{passed, run, run_so_far};
 
 use crate::ending::ended;
 use crate::live_program::{end_reported, is_printed, with_last};
-use crate::messages::{NotEvaluated, StoppedAt};
+use crate::messages::{NotEvaluated, StoppedAfter};
 use crate::passing::{Completed, GivenBack, Resources};
 use crate::seeing::{Both, Heard, Kinds};
 use crate::telling::no_files;
@@ -124,9 +124,9 @@ fn end_evaluated<E: Says>(end: EvalEnd, errors: &mut E) -> Ending
     ensures reported { TellsEval (⟦<E as Heard>⟧.said errors.old errors.new) result.reported
         (Ok end) }
 {
-    match end.stopped_at {
+    match end.stopped_after {
         None => ended(status_by(end.counts), true),
-        Some(number) => ended(3, errors.say(&StoppedAt { line: number })),
+        Some(field) => ended(3, errors.say(&StoppedAfter { field })),
     }
 }
 

@@ -3,7 +3,7 @@ ghost use Rattle.std.specs.Prelude.{Some};
 ghost use Rattle.evaluation.specs.Faults as evaluated;
 ghost use Rattle.past.specs.Faults as gone;
 ghost use Rattle.program_endings.specs.Faults as printed;
-ghost use Rattle.program_endings.specs.StrictProgram.{stopped_text};
+ghost use Rattle.program_endings.specs.StrictProgram.{stopped_after_text, stopped_text};
 ghost use Rattle.sheet_export.specs.Formats as exported;
 
 use crate::create_fault_text;
@@ -15,7 +15,7 @@ use sheet_files::MakeFault;
 use sheet_text::WriteFault;
 use std::io::Write;
 
-/// The line after which a strict run or a strict evaluation stopped, by its number, from 1.
+/// The line after which a strict run stopped, by its number, from 1.
 #[derive(Clone, Copy)]
 pub(crate) struct StoppedAt {
     pub line: u64,
@@ -27,6 +27,21 @@ impl Message for StoppedAt {
     fn write<W: Write>(&self, out: &mut W) -> Result<(), WriteFault> {
         let number = self.line;
         writeln!(out, "stopped at line {number}").map_err(|_| WriteFault)
+    }
+}
+
+/// The field after which a strict evaluation stopped, by its number.
+#[derive(Clone, Copy)]
+pub(crate) struct StoppedAfter {
+    pub field: u32,
+}
+
+impl Message for StoppedAfter {
+    ghost text = { λ after. Some (stopped_after_text after.field) };
+
+    fn write<W: Write>(&self, out: &mut W) -> Result<(), WriteFault> {
+        let number = self.field;
+        writeln!(out, "stopped at field {number}").map_err(|_| WriteFault)
     }
 }
 

@@ -146,13 +146,13 @@ evaluates 'the fields after an end are passed over' 1 \
     'asked\nbanner a\nanswered 1\nasked\nended a Ended lost 1\nasked\nended b StartRefused lost 1\nanswered 2 unanswered 2\nover 0 passed 1\n' \
     '#1 a\n> x\nx 1\n#2 a\n> end\n? Ended\n#3 a\n> z\nz 1\n#4 b\n> y\n? StartRefused\n' --jobs 1
 evaluates 'strictly: it stops behind the first one, and the fields behind keep what they show' 3 \
-    'asked\nbanner a\nanswered 1\nasked\nended a Ended lost 1\nanswered 2 unanswered 2\nstopped at line 4\n' \
+    'asked\nbanner a\nanswered 1\nasked\nended a Ended lost 1\nanswered 2 unanswered 2\nstopped at field 2\n' \
     '#1 a\n> x\nx 1\n#2 a\n> end\n? Ended\n#3 a\n> z\nz 1\n#4 b\n> y\n? StartRefused\n' --strict
-evaluates 'strictly, those that were lost' 3 'asked\nbanner a\nended a Ended lost 1\nanswered 2 unanswered 2\nstopped at line 2\n' \
+evaluates 'strictly, those that were lost' 3 'asked\nbanner a\nended a Ended lost 1\nanswered 2 unanswered 2\nstopped at field 2\n' \
     '#1 a\n> x\nx 1\n#2 a\n> end\n? Ended\n#3 a\n> z\nz 1\n#4 b\n> y\n? StartRefused\n' --strict --unanswered
 compare 'strictly, with both streams in one' "$("$tmhost" eval --strict --unanswered sheet 2>&1 </dev/null)" \
-    "$(printf 'asked\nbanner a\nended a Ended lost 1\nanswered 2 unanswered 2\nstopped at line 2')"
-evaluates 'strictly, a field that is named' 3 'asked\nbanner a\nended a Ended lost 1\nanswered 2 unanswered 2\nstopped at line 2\n' \
+    "$(printf 'asked\nbanner a\nended a Ended lost 1\nanswered 2 unanswered 2\nstopped at field 2')"
+evaluates 'strictly, a field that is named' 3 'asked\nbanner a\nended a Ended lost 1\nanswered 2 unanswered 2\nstopped at field 2\n' \
     '#1 a\n> x\nx 1\n#2 a\n> end\n? Ended\n#3 a\n> z\nz 1\n#4 b\n> y\n? StartRefused\n' --strict 3 2
 evaluates 'one that is named is passed over after one that is lost' 1 \
     'asked\nbanner a\nended a Ended lost 1\nanswered 2 unanswered 2\nover 0 passed 1\n' \
@@ -242,7 +242,7 @@ ended_so deaf 'one that hears no interrupt stalls, and the fields after it keep 
 ended_so going 'they go to another interpreter' 1 \
     'asked\nbanner a\nanswered 1\nasked\nover 5\nended a Stalled lost 1\nasked\nbanner a\nanswered 3\nasked\nbanner b\nanswered 4\nanswered 3 unanswered 1\nover 1 passed 0\n' \
     '#1 a\n> x\nx\n#5 a\n> deaf\n? Stalled\n#3 a\n> y\ny\n#4 b\n> z\nz 1\n'
-ended_so strictly 'strictly' 3 'asked\nbanner a\nanswered 1\nasked\nover 5\nended a Stalled lost 1\nanswered 3 unanswered 1\nover 1 passed 2\nstopped at line 4\n' \
+ended_so strictly 'strictly' 3 'asked\nbanner a\nanswered 1\nasked\nover 5\nended a Stalled lost 1\nanswered 3 unanswered 1\nover 1 passed 2\nstopped at field 5\n' \
     '#1 a\n> x\nx\n#5 a\n> deaf\n? Stalled\n#3 a\n> y\ny\n#4 b\n> z\nz 1\n'
 
 cat >wanted <<'END'
@@ -461,9 +461,9 @@ done
 END
 made 'session a plain sh wrong.sh\nnew 0 a x\nnew 1 a bad\nnew 2 a y\nnew 3 a deep\n'
 wrong='#1 a\n> x\nerror x\n#2 a\n> bad\noops\n#3 a\n> y\n'
-evaluates 'it stops at an answer that is an error' 3 'asked\nbanner a\nanswered 1\nasked\nanswered 2\nanswered 2 unanswered 2\nerrors 1\nstopped at line 4\n' \
+evaluates 'it stops at an answer that is an error' 3 'asked\nbanner a\nanswered 1\nasked\nanswered 2\nanswered 2 unanswered 2\nerrors 1\nstopped at field 2\n' \
     "$wrong"'?\n#4 a\n> deep\n?\n' --stop-at-error
-evaluates 'and at one in which there is an error' 3 'asked\nbanner a\nanswered 3\nasked\nanswered 4\nanswered 4 unanswered 0\nerrors 2\nstopped at line 4\n' \
+evaluates 'and at one in which there is an error' 3 'asked\nbanner a\nanswered 3\nasked\nanswered 4\nanswered 4 unanswered 0\nerrors 2\nstopped at field 4\n' \
     "$wrong"'error y\n#4 a\n> deep\n1{error#oops}\n' --stop-at-error 3 4
 evaluates 'strictly it is an answer' 0 'asked\nbanner a\nanswered 1\nasked\nanswered 2\nasked\nanswered 3\nasked\nanswered 4\nanswered 4 unanswered 0\nerrors 2\n' \
     "$wrong"'error y\n#4 a\n> deep\n1{error#oops}\n' --strict

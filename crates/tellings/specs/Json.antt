@@ -26,17 +26,17 @@ use Rattle.sheet_export.specs.declared.formats.Format.{Format}
 use Rattle.tellings.specs.Voice.{Voice, page_title}
 use Rattle.tellings.specs.Faults.{fault_name, fault_number, fault_offset}
 use Rattle.tellings.specs.declared.note.Boundary.{Boundary}
-use Rattle.tellings.specs.declared.note.Boundary.TheVariants as frame
+use Rattle.tellings.specs.declared.note.Boundary.TheVariants as boundary
 use Rattle.tellings.specs.declared.note.Note.{Note}
 use Rattle.tellings.specs.declared.note.Counts.{Counts}
 use Rattle.tellings.specs.declared.note.Overs.{Overs}
 use Rattle.tellings.specs.declared.note.Note.TheVariants as note
 
 abbrev pub frame_json : Boundary → List ℕ
-frame_json frame.Hello = telling_line reported.hello
-frame_json frame.End = telling_line reported.end
-frame_json (frame.NoField id) = telling_line (reported.no_field id)
-frame_json (frame.NoProgram name) = telling_line (reported.no_program name)
+frame_json boundary.Hello = telling_line reported.hello
+frame_json boundary.End = telling_line reported.end
+frame_json (boundary.NoField id) = telling_line (reported.no_field id)
+frame_json (boundary.NoProgram name) = telling_line (reported.no_program name)
 
 -- what came of the wish to interrupt an interpreter
 abbrev pub interrupt_json : ℕ → Interrupted → List ℕ

@@ -6,12 +6,12 @@ use Rattle.session_engine.specs.World.{World}
 use Rattle.child_edge.specs.Seats.{seats_of, waits}
 use Rattle.evaluation.specs.declared.plan.Plan.{Plan}
 use Rattle.evaluation.specs.declared.plan.Stand.{Stand}
-use Rattle.evaluation.specs.Meant.{is_passed, stop_line}
+use Rattle.evaluation.specs.Meant.{is_passed, stop_field}
 use Rattle.evaluation.specs.Beside.{is_waiting_one}
 
 -- the first field that was neither asked nor passed over isn't passed over here, and a strict evaluation doesn't stop before it
 abbrev pub is_due : Plan → List Field → List ℕ → Stand → Bool
-is_due plan fields meant stand = not (is_some (stop_line plan fields stand)) && not (is_passed plan fields stand.lasts meant stand.taken)
+is_due plan fields meant stand = not (is_some (stop_field plan fields stand)) && not (is_passed plan fields stand.lasts meant stand.taken)
 
 abbrev pub one_if : Bool → ℕ
 one_if true = 1
