@@ -2,7 +2,7 @@
 //! Into a pipe or a file nothing of it goes, but for the reason, where the environment asks for it.
 use crate::startup::words;
 use command_words::{Task, read_words};
-use sheet_files::is_output;
+use sheet_files::{folder_of, is_output};
 use std::fs::OpenOptions;
 use std::io::{IsTerminal, Write};
 use std::os::unix::fs::MetadataExt;
@@ -76,15 +76,6 @@ fn opening_error(rt: &HostRuntime, path: &str, writes: bool) -> Option<io::Error
     match OpenOptions::new().read(true).write(writes).open(rt, path) {
         Ok(_) => None,
         Err(error) => Some(error),
-    }
-}
-
-/// The folder in which a path stands.
-fn folder_of(path: &str) -> &str {
-    match path.rfind('/') {
-        None => ".",
-        Some(0) => "/",
-        Some(end) => path.get(..end).unwrap_or("."),
     }
 }
 

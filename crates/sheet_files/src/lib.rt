@@ -27,7 +27,7 @@ pub use memory_file::MemoryFile;
 pub use names::Names;
 pub use openings::{Openings, Pair};
 pub use outputs::is_output;
-pub use pairing::FileNames;
+pub use pairing::{FileNames, folder_of};
 pub use places::{FilePlaces, Places};
 pub use sheet_file::{Identity, Lock, SheetFile};
 pub use system_file::SystemFile;

@@ -31,8 +31,8 @@ pub(crate) fn second_path(alloc: Global, path: &str) -> io::Result<String>
     Ok(second)
 }
 
-/// The folder of a path, as a path.
-fn folder_of(path: &str) -> &str {
+/// The folder in which a path stands, as a path.
+pub fn folder_of(path: &str) -> &str {
     match path.rfind('/') {
         None => ".",
         Some(0) => "/",

@@ -11,7 +11,7 @@ use Rattle.serde_json.specs.Written.{has_float, items_have_float}
 use Rattle.sheet_json.specs.Bytes.{base64_data, bytes_data}
 use Rattle.sheet_json.specs.Blocks.{block_object, items_data, tree_data}
 use Rattle.sheet_json.specs.Lines.{json_line}
-use Rattle.sheet_json.specs.Objects.{answer_data, checked_data, completions_data, count, event_data, export_data, field_with, life_data, lost_data, prompt_data, reply_data, session_data, shown_data, telling_data, took_data, why_data}
+use Rattle.sheet_json.specs.Objects.{answer_data, checked_data, completions_data, count, event_data, text_or_null, field_with, life_data, lost_data, prompt_data, reply_data, session_data, shown_data, telling_data, took_data, why_data}
 use Rattle.sheet_json.specs.Sheets.{telling_line}
 use Rattle.sheet_json.specs.Shown.{still_field, whole_of}
 use Rattle.worksheet.specs.Contents.{Contents}
@@ -120,7 +120,7 @@ checked_none id session took (reported.unanswered input shows why) =
 checked_none id session took (reported.new input came) =
     two (has_float (answer_data came)) (has_float (bytes_data session)) _ (answer_none came) (bytes_none session) (ap (λ b. b || false) (took_none took))
 
-export_none : (given : Option (List ℕ)) → (has_float (export_data given) || false) ≡ false
+export_none : (given : Option (List ℕ)) → (has_float (text_or_null given) || false) ≡ false
 export_none None = refl
 export_none (Some bytes) = ap (λ b. b || false) (bytes_none bytes)
 

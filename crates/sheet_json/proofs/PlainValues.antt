@@ -19,7 +19,7 @@ use Rattle.serde_json.specs.Data as json
 use Rattle.serde_json.specs.View.{items_of}
 use Rattle.sheet_json.specs.Bytes.{base64_data, bytes_data}
 use Rattle.sheet_json.specs.Blocks.{block_object, items_data, tree_data}
-use Rattle.sheet_json.specs.Objects.{answer_data, checked_data, completions_data, count, event_data, export_data, field_with, ids_data, life_data, lost_data, losts_data, prompt_data, reply_data, session_data, sessions_data, telling_data, texts_data, took_data, typed, why_data}
+use Rattle.sheet_json.specs.Objects.{answer_data, checked_data, completions_data, count, event_data, text_or_null, field_with, ids_data, life_data, lost_data, losts_data, prompt_data, reply_data, session_data, sessions_data, telling_data, texts_data, took_data, typed, why_data}
 use Rattle.sheet_json.specs.Plain.{ArePlain, HasPlain, Is64, IsPlain, IsSoundAnswer, IsSoundCheck, IsSoundTelling, IsSoundEvent, IsSoundItem, IsSoundLife, IsSoundReply, IsSoundSession, IsSoundState, IsSoundTook}
 use Rattle.sheet_json.specs.Tellings.{CheckReported, Telling, Reply, EventReported, SessionShown, State}
 use Rattle.sheet_json.specs.Tellings as reported
@@ -214,7 +214,7 @@ checked_plain id session took (reported.unanswered input shows why) i k s =
 checked_plain id session took (reported.new input came) i k s =
     an_object (a_member (answer_plain came s) (a_member (a_count i) (a_member a_text (a_member (some_bytes session) (a_member (took_plain took k) (a_member a_text (a_member a_text no_more)))))))
 
-export_plain : (given : Option (List ℕ)) → IsPlain 66 (export_data given)
+export_plain : (given : Option (List ℕ)) → IsPlain 66 (text_or_null given)
 export_plain None = no_value
 export_plain (Some bytes) = some_bytes bytes
 

@@ -18,7 +18,7 @@ use Rattle.serde_json.specs.Data as json
 use Rattle.serde_json.specs.View.{items_of}
 use Rattle.sheet_json.specs.Bytes.{base64_data, bytes_data}
 use Rattle.sheet_json.specs.Blocks.{tree_data}
-use Rattle.sheet_json.specs.Objects.{completions_data, count, export_data, lost_data, losts_data, prompt_data, texts_data}
+use Rattle.sheet_json.specs.Objects.{completions_data, count, text_or_null, lost_data, losts_data, prompt_data, texts_data}
 use Rattle.sheet_json.specs.Reading.{bytes_in, tree_in, HasBytes}
 use Rattle.sheet_json.specs.Tellings.{EventReported}
 use Rattle.sheet_json.specs.Tellings as reported
@@ -71,7 +71,7 @@ replies_read_back line (reported.undone first) = refl
 pub counts_read_back : CountsReadBack
 counts_read_back = ((λ a u e. refl), (λ a u e over passed. refl), (λ id outcome. refl))
 
-export_back : (text : Option (List ℕ)) → IfSome text IsBytes → option_in bytes_in (export_data text) ≡ Some text
+export_back : (text : Option (List ℕ)) → IfSome text IsBytes → option_in bytes_in (text_or_null text) ≡ Some text
 export_back None good = refl
 export_back (Some text) good =
     elim (is_utf8 text) as (λ b. option_in bytes_in (cond b (json.string text) (base64_data text)) ≡ Some (Some text))

@@ -156,13 +156,13 @@ checked_data id session took (reported.new input came) =
 -- Worksheets in a format.
 
 -- a text; null where there is none
-abbrev pub export_data : Option (List ℕ) → Data
-export_data None = null
-export_data (Some text) = bytes_data text
+abbrev pub text_or_null : Option (List ℕ) → Data
+text_or_null None = null
+text_or_null (Some text) = bytes_data text
 
 abbrev pub exported_data : ℕ → List ℕ → Option (List ℕ) → Data
 exported_data line format text =
-    object (member (codes "format") (string format) (member (codes "line") (count line) (member (codes "text") (export_data text) (typed (codes "exported")))))
+    object (member (codes "format") (string format) (member (codes "line") (count line) (member (codes "text") (text_or_null text) (typed (codes "exported")))))
 
 -- All that is printed.
 abbrev pub telling_data : Telling → Data

@@ -2,7 +2,7 @@
 ghost use Rattle.std.specs.Prelude.{◌≡◌, IfOk};
 ghost use Rattle.std.specs.Option.{option_copied};
 ghost use Rattle.serde_json.specs.View.{view};
-ghost use Rattle.sheet_json.specs.Objects.{export_data, telling_data};
+ghost use Rattle.sheet_json.specs.Objects.{telling_data, text_or_null};
 ghost use Rattle.sheet_json.specs.Tellings as reported;
 
 use crate::bytes::bytes_value;
@@ -102,7 +102,7 @@ pub fn waited_value(alloc: Global, line: u64, timed_out: bool) -> Result<Value, 
 
 /// A text, or that there is none.
 fn export_value(alloc: Global, text: Option<&[u8]>) -> Result<Value, AllocError>
-    ensures { IfOk result (λ value. view value ≡ export_data (option_copied text.entry)) }
+    ensures { IfOk result (λ value. view value ≡ text_or_null (option_copied text.entry)) }
 {
     match text {
         None => Ok(Value::Null),

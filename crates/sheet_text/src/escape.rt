@@ -1,5 +1,5 @@
 //! Bytes as they are printed.
-ghost use Rattle.std.specs.Prelude.{◌≡◌, ◌<◌, ◌≤◌, ◌+◌, ◌++◌, OnOk, ℕ, Option, Some, false, take};
+ghost use Rattle.std.specs.Prelude.{◌≡◌, ◌<◌, OnOk, ℕ, Option, Some};
 ghost use Rattle.std.specs.List.{flat_map, last_or};
 ghost use Rattle.std.specs.Io.KnownBytes.{Appends};
 ghost use Rattle.sheet_text.specs.Escape.{byte_in_quotes, escaped_byte, hex, in_quotes, on_line, on_lines, printed_byte};
@@ -10,10 +10,7 @@ use crate::plain::plain_end;
 use std::io::Write;
 
 /// The most bytes that are printed for a byte.
-pub(crate) const MOST_PRINTED: usize = 4;
-
-/// The most bytes that are printed before they are written together.
-pub(crate) const ROOM: usize = 64;
+const MOST_PRINTED: usize = 4;
 
 /// A hexadecimal digit, in lower case.
 pub fn hex_digit(n: u8) -> u8
@@ -57,11 +54,7 @@ fn escaped(byte: u8) -> [u8; MOST_PRINTED]
     u32::from_le_bytes([b'\\', b'x', high, low]).to_le_bytes()
 }
 
-pub(crate) fn write_byte<W: Write>(
-    byte: u8,
-    keeps_lines: bool,
-    out: &mut W,
-) -> Result<(), WriteFault>
+fn write_byte<W: Write>(byte: u8, keeps_lines: bool, out: &mut W) -> Result<(), WriteFault>
     ensures { OnOk result
         (Appends (W.contents out.old) (W.contents out.new) (printed_byte keeps_lines byte)) }
 {
@@ -71,24 +64,9 @@ pub(crate) fn write_byte<W: Write>(
     out.write_all(&escaped(byte)).map_err(|_| WriteFault)
 }
 
-/// Puts what is printed for a byte after the bytes that a room holds, and returns how many it holds then.
-#[inline(always)]
-pub(crate) fn put_byte(byte: u8, room: &mut [u8; ROOM], used: usize) -> usize
-    requires { used + MOST_PRINTED ≤ ROOM }
-    ensures within { result ≤ used + MOST_PRINTED }
-    ensures text { take result room.new ≡ take used room.old ++ printed_byte false byte }
-{
-    if is_plain(byte, false) {
-        room[used] = byte;
-        return used + 1;
-    }
-    room[used..used + 4].copy_from_slice(&escaped(byte));
-    used + 4
-}
-
 /// Writes a run of bytes as they are; most runs between bytes that aren't printed as themselves are empty.
 #[inline(always)]
-pub(crate) fn write_run<W: Write>(run: &[u8], out: &mut W) -> Result<(), WriteFault>
+fn write_run<W: Write>(run: &[u8], out: &mut W) -> Result<(), WriteFault>
     ensures { OnOk result (Appends (W.contents out.old) (W.contents out.new) run.now) }
 {
     if run.is_empty() {

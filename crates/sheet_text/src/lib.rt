@@ -13,7 +13,6 @@ mod plain;
 mod replies;
 mod script;
 mod sheet;
-mod spelled;
 
 pub use blocks::{block_text, is_bare_tag, tree_text};
 pub use escape::{hex_digit, is_plain, write_line, write_lines};
@@ -26,4 +25,3 @@ pub use script::{LineFault, ScriptLine, read_line};
 pub use sheet::{
     field_text, sheet_text, write_input, write_no_answer, write_number, write_output, write_text,
 };
-pub use spelled::spelled_text;

@@ -12,7 +12,7 @@ use Rattle.serde_json.specs.Written.{compact_text, has_float}
 use Rattle.sheet_json.specs.Blocks.{tree_data}
 use Rattle.sheet_json.specs.Bytes.{bytes_data}
 use Rattle.sheet_json.specs.Lines.{IsOneLine, json_line}
-use Rattle.sheet_json.specs.Objects.{count, shown_data}
+use Rattle.sheet_json.specs.Objects.{count, shown_data, text_or_null}
 use Rattle.sheet_json.specs.Plain.{HasPlain, Is64, IsPlain}
 use Rattle.sheet_json.specs.Tellings as reported
 use Rattle.sheet_json.specs.Reported.{of}
@@ -21,7 +21,7 @@ use Rattle.sheet_json.proofs.NoFloats.{none_reported}
 use Rattle.sheet_json.proofs.PlainValues.{tellings_are_plain}
 use Rattle.sheet_json.proofs.Within.{text_within}
 use Rattle.stream_json.specs.Laws.{IsSoundEnd, IsSoundOuter, OutersReadBack, StreamsAreLines}
-use Rattle.stream_json.specs.StreamObjects.{channel_data, end_data, outer_data, unfinished_data}
+use Rattle.stream_json.specs.StreamObjects.{end_data, outer_data, unfinished_data}
 use Rattle.stream_json.specs.Streams.{StreamEnd, broken, inside, outside}
 
 first_false : (x y : Bool) → (x || y) ≡ false → x ≡ false
@@ -35,7 +35,7 @@ bytes_none bytes = first_false (has_float (bytes_data bytes)) _ (none_reported (
 tree_none : (b : Tree) → has_float (tree_data b) ≡ false
 tree_none b = first_false (has_float (tree_data b)) _ (none_reported (reported.event [] 0 (reported.banner b None)))
 
-channel_none : (text : Option (List ℕ)) → has_float (channel_data text) ≡ false
+channel_none : (text : Option (List ℕ)) → has_float (text_or_null text) ≡ false
 channel_none None = refl
 channel_none (Some text) = bytes_none text
 
@@ -44,8 +44,8 @@ none_of_five a b c d e p q r s t = ap₂ (λ x y. x || y) p (ap₂ (λ x y. x ||
 
 pub outer_none : (o : Outer) → has_float (outer_data o) ≡ false
 outer_none o =
-    none_of_five (has_float (tree_data o.block)) (has_float (channel_data (text_on_channel (codes "input") o.block))) (has_float (tree_data (output o.block)))
-    (has_float (channel_data (text_on_channel (codes "prompt") o.block))) (has_float (shown_data (output o.block))) (tree_none o.block) (channel_none _) (tree_none (output o.block)) (channel_none _) (bytes_none _)
+    none_of_five (has_float (tree_data o.block)) (has_float (text_or_null (text_on_channel (codes "input") o.block))) (has_float (tree_data (output o.block)))
+    (has_float (text_or_null (text_on_channel (codes "prompt") o.block))) (has_float (shown_data (output o.block))) (tree_none o.block) (channel_none _) (tree_none (output o.block)) (channel_none _) (bytes_none _)
 
 -- the same of their depth and their numbers
 second_within : (a b c n : ℕ) → suc (max a (max b c)) ≤ suc n → b ≤ n
@@ -76,7 +76,7 @@ plain_text = record { floats = refl; nests = omega arith; counts = tt }
 plain_count : {n : ℕ} → Is64 n → IsPlain 66 (count n)
 plain_count h = record { floats = refl; nests = omega arith; counts = h }
 
-plain_channel : (text : Option (List ℕ)) → IsPlain 66 (channel_data text)
+plain_channel : (text : Option (List ℕ)) → IsPlain 66 (text_or_null text)
 plain_channel None = record { floats = refl; nests = omega arith; counts = tt }
 plain_channel (Some text) = plain_bytes text
 

@@ -8,18 +8,12 @@ use Rattle.meta_format.specs.Limits.{Limits}
 use Rattle.meta_format.specs.Stream.{Outer}
 use Rattle.offline_programs.specs.declared.fault.RunFault.{RunFault}
 use Rattle.offline_programs.specs.declared.fault.RunFault.TheVariants as fault
-use Rattle.serde_json.specs.Data.{Data, null, object, member}
+use Rattle.serde_json.specs.Data.{Data, object, member}
 use Rattle.sheet_json.specs.Blocks.{tree_data}
-use Rattle.sheet_json.specs.Bytes.{bytes_data}
 use Rattle.sheet_json.specs.Lines.{json_line}
-use Rattle.sheet_json.specs.Objects.{count, shown_data, telling_data, typed}
+use Rattle.sheet_json.specs.Objects.{count, shown_data, telling_data, text_or_null, typed}
 use Rattle.sheet_json.specs.Tellings as reported
 use Rattle.stream_json.specs.Streams.{StreamEnd, StreamHas, broken, inside, is_whole, outside}
-
--- the text of a channel, or that there is none
-abbrev pub channel_data : Option (List ℕ) → Data
-channel_data None = null
-channel_data (Some text) = bytes_data text
 
 -- An outer block: its offsets, the block with all its tags, and these parts of it.
 abbrev pub outer_with : Outer → Data → Data → Data → Data → Data
@@ -28,7 +22,7 @@ outer_with o default kept prompt shown = object (member (codes "block") (tree_da
 
 -- The parts are what a host takes of it as an answer: its default input, the output, the text of its prompt, and the output as it is shown.
 abbrev pub outer_data : Outer → Data
-outer_data o = outer_with o (channel_data (text_on_channel (codes "input") o.block)) (tree_data (output o.block)) (channel_data (text_on_channel (codes "prompt") o.block)) (shown_data (output o.block))
+outer_data o = outer_with o (text_or_null (text_on_channel (codes "input") o.block)) (tree_data (output o.block)) (text_or_null (text_on_channel (codes "prompt") o.block)) (shown_data (output o.block))
 
 abbrev pub unfinished_data : ℕ → Data
 unfinished_data start = object (member (codes "start") (count start) (typed (codes "unfinished")))

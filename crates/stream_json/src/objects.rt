@@ -4,9 +4,9 @@ ghost use Rattle.block_tree.specs.Output.{output, text_on_channel};
 ghost use Rattle.sheet_json.specs.Blocks.{tree_data};
 ghost use Rattle.serde_json.specs.Data.{member, no_members};
 ghost use Rattle.serde_json.specs.View.{members_view, view};
-ghost use Rattle.sheet_json.specs.Objects.{shown_data};
+ghost use Rattle.sheet_json.specs.Objects.{shown_data, text_or_null};
 ghost use Rattle.sheet_text.specs.Blocks as printed;
-ghost use Rattle.stream_json.specs.StreamObjects.{channel_data, outer_data, outer_with, unfinished_data};
+ghost use Rattle.stream_json.specs.StreamObjects.{outer_data, outer_with, unfinished_data};
 
 use block_tree::{Block, channel_text, output_of};
 use serde_json::{Map, Value, json, put};
@@ -15,7 +15,7 @@ use std::alloc::{AllocError, Global};
 
 /// The text of a channel, or that a block has no such channel.
 fn channel_value(alloc: Global, block: &Block, name: &[u8]) -> Result<Value, AllocError>
-    ensures { IfOk result (λ value. view value ≡ channel_data
+    ensures { IfOk result (λ value. view value ≡ text_or_null
         (text_on_channel name.now block.now)) }
 {
     match channel_text(alloc, block, name)? {
@@ -47,10 +47,10 @@ fn outputs_of(alloc: Global, block: &Block) -> Result<(Value, Value), AllocError
 /// What a host takes of a block as an answer: its default, its output in blocks and as shown, and its prompt.
 fn taken_of(alloc: Global, block: &Block) -> Result<Taken, AllocError>
     ensures default { IfOk result (λ taken. view taken.default
-        ≡ channel_data (text_on_channel (codes "input") block.now)) }
+        ≡ text_or_null (text_on_channel (codes "input") block.now)) }
     ensures output { IfOk result (λ taken. view taken.output ≡ tree_data (output block.now)) }
     ensures prompt { IfOk result (λ taken. view taken.prompt
-        ≡ channel_data (text_on_channel (codes "prompt") block.now)) }
+        ≡ text_or_null (text_on_channel (codes "prompt") block.now)) }
     ensures shown { IfOk result (λ taken. view taken.shown ≡ shown_data (output block.now)) }
 {
     let default = channel_value(alloc, block, b"input")?;

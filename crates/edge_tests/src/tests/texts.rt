@@ -2,9 +2,7 @@
 use block_tree::{Block, Octets, OutOfMemory, Sequence};
 use host_events::{Command, Reply};
 use meta_format::read_block;
-use sheet_text::{
-    LineFault, ScriptLine, block_text, read_line, reply_text, sheet_text, spelled_text, tree_text,
-};
+use sheet_text::{LineFault, ScriptLine, block_text, read_line, reply_text, sheet_text, tree_text};
 use std::alloc::Global;
 use tests_desk::exhausted;
 use worksheet::{Op, Refusal, Sheet};
@@ -108,24 +106,4 @@ fn are_texts_written(alloc: Global) -> Option<bool> {
 #[test]
 fn texts_take_no_memory(rt: HostRuntime) {
     assert!(rt; are_texts_written(rt.alloc()) == Some(true));
-}
-
-const SPELLING: &[u8] = b"\x02verbatim:a\tb\x1b\x05\x1b\x1b\x1b[\x02prompt#> \x7f\x05\x05";
-
-const SPELLED: &[u8] = b"{verbatim:a\\x09b\\x05\\x1b\\x1b[{prompt#> \\x7f}}";
-
-// Whether the block is written from its bytes while no memory is left.
-fn is_written_from_bytes(alloc: Global) -> Option<bool> {
-    let block = read_block(alloc, SPELLING).ok()?;
-    let mut out: Vec<u8> = Vec::with_capacity(alloc, 100).ok()?;
-    let held = exhausted(alloc).ok()?;
-    let done = spelled_text(SPELLING, &mut out).is_ok();
-    drop(held);
-    drop(block);
-    Some(done && out.as_slice() == SPELLED)
-}
-
-#[test]
-fn a_spelling_takes_no_memory(rt: HostRuntime) {
-    assert!(rt; is_written_from_bytes(rt.alloc()) == Some(true));
 }
