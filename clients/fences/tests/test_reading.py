@@ -94,10 +94,10 @@ class Fields(unittest.TestCase):
         numbers = ["v = [", *["1,"] * 1_500, "1]", "w"]
         for code, language, length in ((text, "python", 5_333), (numbers, "gp", 7_510), ((*numbers[:-1], "-- a remark (", "w"), "lua", 7_510)):
             first, *others = groups(list(code), language)
-            self.assertEqual(first.misfit, f"refused: it has {length:,} bytes (each end of a line counts three), and a field has at most 4,095")
+            self.assertEqual(first.misfit, f"refused: it has {length:,} bytes (each end of a line counts three), and a field has at most 4,095: cut it into several, or load it from a file")
             self.assertEqual([it.input for it in others], list(code)[-len(others):])
         self.assertGreater(len(list(groups(numbers, ""))), 1_000)
-        self.assertEqual([it.misfit for it in groups(["x" * 4_096], "python")], ["refused: it has 4,096 bytes, and a field has at most 4,095"])
+        self.assertEqual([it.misfit for it in groups(["x" * 4_096], "python")], ["refused: it has 4,096 bytes, and a field has at most 4,095: cut it into several, or load it from a file"])
 
     def test_remarks_at_the_left_edge_within_a_block(self) -> None:
         """A block goes on over them, where it goes on after them at all."""

@@ -115,7 +115,7 @@ class Shell(unittest.TestCase):
         for code in (["cat <<E", *body, "E", "ls"], ["x='", *body, "'", "ls"], ["x=$(", *body, ")", "ls"]):
             first, last = groups(code, "sh")
             size = len("\n".join(code[:-1])) + 2 * (len(code) - 2)
-            self.assertEqual((first.misfit, last.input), (f"refused: it has {size:,} bytes (each end of a line counts three), and a field has at most 4,095", "ls"))
+            self.assertEqual((first.misfit, last.input), (f"refused: it has {size:,} bytes (each end of a line counts three), and a field has at most 4,095: cut it into several, or load it from a file", "ls"))
 
     def test_random_commands(self) -> None:
         """Each is a field."""

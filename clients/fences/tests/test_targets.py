@@ -4,7 +4,7 @@ import tempfile
 import unittest
 from typing import Optional
 
-from tmhost_fences.targets import refuse_target
+from tmhost_fences.targets import MAGIC, refuse_target
 from tmhost_fences.troubles import Trouble
 
 
@@ -26,3 +26,16 @@ class Targets(unittest.TestCase):
                     said = str(trouble)
                 self.assertEqual(said is None, wanted is None, (path, said))
                 self.assertIn(wanted or "", said or "")
+
+    def test_a_pipe(self) -> None:
+        """It is a place to write to, and nothing is read from it: who does waits for ever where nobody writes."""
+        with tempfile.TemporaryDirectory() as folder:
+            pipe = os.path.join(folder, "pipe")
+            os.mkfifo(pipe)
+            end = os.open(pipe, os.O_RDWR | os.O_NONBLOCK)
+            try:
+                os.write(end, MAGIC)
+                refuse_target("--output", pipe, [])
+                self.assertEqual(os.read(end, 100), MAGIC)
+            finally:
+                os.close(end)

@@ -52,14 +52,15 @@ class Group:
 
     @property
     def misfit(self) -> Optional[str]:
-        """Why no field can have it as its input."""
+        """Why no field can have it as its input, and what to do where it is too long."""
         if SURROGATE.search(self.input):
             return "refused: it has bytes that are no UTF-8"
         if CONTROL.search(self.input):
             return "refused: it has a control character"
         length = len(self.input.encode("utf-8"))
         counted = " (each end of a line counts three)" if LINE_END in self.input else ""
-        return f"refused: it has {length:,} bytes{counted}, and a field has at most {LONGEST_INPUT:,}" if length > LONGEST_INPUT else None
+        why = f"refused: it has {length:,} bytes{counted}, and a field has at most {LONGEST_INPUT:,}: cut it into several, or load it from a file"
+        return why if length > LONGEST_INPUT else None
 
 
 def group(at: int, lines: List[str]) -> Iterator[Group]:

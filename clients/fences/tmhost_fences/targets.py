@@ -8,6 +8,9 @@ MAGIC = b"TMWSHEET"  # the first bytes of a worksheet
 
 
 def begins_a_worksheet(path: str) -> bool:
+    """Nothing but a file is opened: of a pipe that would wait for who writes into it."""
+    if not os.path.isfile(path):
+        return False
     try:
         with open(path, "rb") as file:
             return file.read(len(MAGIC)) == MAGIC

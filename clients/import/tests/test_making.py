@@ -14,6 +14,7 @@ from tested import heed_interrupts
 
 from .support import COMMAND, PROGRAM, ROOT, Case, Done, code, needs_program, notebook
 
+PROSE = COMMAND.replace("tmhost-import", "tmhost-prose")
 ECHO = f"sh {ROOT}/examples/echo.sh"
 # Programs that stand before tmhost, each a text for sh; `$REAL` is tmhost itself.
 STOPS = "[ $1 = run ] || exec $REAL \"$@\"\nsed '3s/.*/bad/' | $REAL \"$@\"\n"
@@ -243,3 +244,19 @@ class Words(Case):
         with open("/dev/full", "wb") as full:
             done = subprocess.run([COMMAND, "--script", document], stdout=full, stderr=subprocess.PIPE)
         self.assertEqual((done.returncode, done.stderr), (1, b"tmhost-import: the script can't be written: No space left on device\n"))
+
+    def test_a_help_that_cannot_be_written(self) -> None:
+        for command in (COMMAND, PROSE):
+            with open("/dev/full", "wb") as full:
+                done = subprocess.run([command, "--help"], stdout=full, stderr=subprocess.PIPE, text=True)
+            self.assertEqual((done.returncode, done.stderr), (1, f"{os.path.basename(command)}: No space left on device\n"))
+
+    def test_a_reader_that_has_gone(self) -> None:
+        """It has seen enough, so nothing is said."""
+        document, text = self.write("a.ipynb", notebook(code("x"))), self.write("a.md", "```gp\nx^2\n```\n\n$x^2$\n")
+        for words in ([COMMAND, "--help"], [PROSE, "--help"], [COMMAND, "--script", document], [PROSE, text]):
+            reader, writer = os.pipe()
+            os.close(reader)
+            with self.subTest(words), os.fdopen(writer, "wb") as gone:
+                done = subprocess.run(words, stdout=gone, stderr=subprocess.PIPE, text=True)
+                self.assertEqual((done.returncode, done.stderr), (1, ""))

@@ -6,6 +6,7 @@ import signal
 import sys
 
 from tmhost.version import ShowVersion
+from tmhost_fences.output import Parser, run_and_flush
 from tmhost_fences.troubles import Trouble
 
 from . import markdown, notebook, org, texmacs
@@ -38,7 +39,7 @@ is 0 where the worksheet is made, 1 where it isn't, which is reported, and 2 whe
 
 def arguments(words: list[str]) -> argparse.Namespace:
     usage = "%(prog)s [OPTIONS] [DOCUMENT] NEW\n       %(prog)s [OPTIONS] --script [DOCUMENT]"
-    parser = argparse.ArgumentParser("tmhost-import", usage, ABOUT, NOTES, formatter_class=argparse.RawDescriptionHelpFormatter)
+    parser = Parser("tmhost-import", usage, ABOUT, NOTES, formatter_class=argparse.RawDescriptionHelpFormatter)
     parser.add_argument("paths", nargs="*", metavar="DOCUMENT, NEW", help="what is read (- or nothing: standard input), and the new worksheet")
     parser.add_argument("--format", choices=FORMATS, help="what the document is, where its name doesn't say it")
     parser.add_argument("--session", action="append", default=[], metavar="NAME=WORDS", help="the words that start the session or the language NAME")
@@ -149,6 +150,8 @@ def write_bytes(data: bytes, what: str = "it") -> None:
     try:
         with open(1, "wb", closefd=False) as out:
             out.write(data)
+    except BrokenPipeError:
+        raise  # who reads it has gone
     except OSError as error:
         raise Trouble(f"{what} can't be written: {error.strerror}") from error
 
@@ -180,9 +183,7 @@ def end_by(number: int, _: object) -> None:
     sys.exit(128 + number)
 
 
-def main(words: list[str]) -> int:
-    signal.signal(signal.SIGTERM, end_by)
-    signal.signal(signal.SIGHUP, end_by)
+def ran(words: list[str]) -> int:
     try:
         do(arguments(words))
     except Trouble as trouble:
@@ -191,3 +192,9 @@ def main(words: list[str]) -> int:
     except KeyboardInterrupt:
         return 130
     return 0
+
+
+def main(words: list[str]) -> int:
+    signal.signal(signal.SIGTERM, end_by)
+    signal.signal(signal.SIGHUP, end_by)
+    return run_and_flush("tmhost-import", ran, words)

@@ -1,6 +1,7 @@
 """The command line of tmhost-prose."""
 import argparse
 
+from tmhost_fences.output import Parser, run_and_flush
 from tmhost_fences.troubles import Trouble
 
 from .command import read_bytes, say_as, write_bytes
@@ -18,7 +19,7 @@ The status is 0, 1 where nothing is written, which is reported, and 2 where the 
 
 
 def arguments(words: list[str]) -> argparse.Namespace:
-    parser = argparse.ArgumentParser(NAME, None, ABOUT, NOTES, formatter_class=argparse.RawDescriptionHelpFormatter)
+    parser = Parser(NAME, None, ABOUT, NOTES, formatter_class=argparse.RawDescriptionHelpFormatter)
     parser.add_argument("path", nargs="?", default="-", metavar="EXPORT", help="what is read (- or nothing: standard input)")
     parser.add_argument("--prose", action="append", metavar="NAME", help="the session NAME is prose, and none that isn't named; may stand more than once")
     parser.add_argument("--png", action="store_true", help="make PNG of the SVG in a notebook, by rsvg-convert: of these Jupyter shows each")
@@ -34,7 +35,7 @@ def as_png(made: Made) -> Made:
     return Made(drawn.data, made.count, made.left + left)
 
 
-def main(words: list[str]) -> int:
+def ran(words: list[str]) -> int:
     given = arguments(words)
     names: list[str] | None = given.prose
     try:
@@ -48,3 +49,7 @@ def main(words: list[str]) -> int:
         return 130
     say_as(NAME, *made.left)
     return 0
+
+
+def main(words: list[str]) -> int:
+    return run_and_flush(NAME, ran, words)

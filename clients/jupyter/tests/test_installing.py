@@ -73,3 +73,13 @@ class Installing(Case):
             self.assertNotEqual(done.returncode, 0)
             self.assertIn(why, done.stderr)
         self.assertFalse(os.path.exists(self.place("share")))
+
+    @unittest.skipUnless(os.path.exists("/dev/full"), "there is no /dev/full")
+    def test_a_help_that_cannot_be_written(self) -> None:
+        """On a full disk a line says why. Of a pipe whose reader has gone nothing is said: that has seen enough."""
+        reader, writer = os.pipe()
+        os.close(reader)
+        with open("/dev/full", "wb") as full, os.fdopen(writer, "wb") as gone:
+            for output, said in ((full, "tmhost-jupyter-kernel: No space left on device\n"), (gone, "")):
+                done = subprocess.run([sys.executable, "-B", COMMAND, "--help"], stdout=output, stderr=subprocess.PIPE, text=True)
+                self.assertEqual((done.returncode, done.stderr), (1, said))

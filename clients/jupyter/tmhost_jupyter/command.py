@@ -6,18 +6,20 @@ from typing import List
 
 from tmhost import TmhostError, find_program
 from tmhost.advice import advised
+from tmhost_fences.output import Parser, run_and_flush
 
 from .installing import BadWords, install
 from .languages import LANGUAGES
 from .sheet import Given
 
+NAME, STARTS = "tmhost-jupyter-kernel", "start"
 BAD_WORDS, FAILED = 2, 1
 WANTS = "{python} has no Jupyter ({error}): install Debian's package python3-ipykernel, or start this by the python3 that has it, as `/path/python3 {command}`"
 
 
-def options() -> argparse.ArgumentParser:
-    parser = argparse.ArgumentParser(
-        prog="tmhost-jupyter-kernel",
+def options() -> Parser:
+    parser = Parser(
+        prog=NAME,
         description="Lets front ends of Jupyter evaluate into worksheets of tmhost: each cell is a field, and its answer is on the disk before it is shown.",
         epilog="`jupyter kernelspec list` shows the kernels, and `jupyter kernelspec remove NAME` takes one away.")
     commands = parser.add_subparsers(dest="command", required=True, metavar="install | start")
@@ -32,7 +34,7 @@ def options() -> argparse.ArgumentParser:
     one.add_argument("--tab", action="store_true", help="the interpreter answers completions")
     one.add_argument("--prefix", default="", metavar="FOLDER", help="where to install, by itself for this user alone")
     one.add_argument("words", nargs=argparse.REMAINDER, metavar="LANGUAGE | WORDS", help="one of the languages, or what starts an interpreter")
-    start = commands.add_parser("start", help="what Jupyter starts the kernel by")
+    start = commands.add_parser(STARTS, help="what Jupyter starts the kernel by")
     start.add_argument("-f", dest="connection", required=True, metavar="FILE")
     start.add_argument("--name", required=True)
     start.add_argument("--session", required=True)
@@ -51,10 +53,10 @@ def start(given: argparse.Namespace) -> None:
     IPKernelApp.launch_instance(argv=["-f", given.connection], kernel_class=WorksheetKernel)
 
 
-def main(words: List[str]) -> int:
+def ran(words: List[str]) -> int:
     given = options().parse_args(words)
     try:
-        if given.command == "start":
+        if given.command == STARTS:
             start(given)
         else:
             print(install(given, find_program()))
@@ -65,6 +67,11 @@ def main(words: List[str]) -> int:
     except (TmhostError, OSError) as error:
         return failed(advised(error, getattr(given, "sheet", None) or ""), FAILED)
     return 0
+
+
+def main(words: List[str]) -> int:
+    """Where a kernel is started, IPython has standard output for itself."""
+    return ran(words) if words[:1] == [STARTS] else run_and_flush(NAME, ran, words)
 
 
 def failed(why: str, status: int) -> int:

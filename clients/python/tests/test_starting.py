@@ -114,6 +114,13 @@ class Sessions(unittest.TestCase):
         for words in ("sh mine.sh", "python3 -u mine.py", "gp --texmacs", "true", "./mine", "mine-2.0"):
             self.assertIsNone(self.doubt(words, words.split()[0]), words)
 
+    def test_an_adapter_of_ours_by_its_path(self) -> None:
+        """Nothing is said of it, though it has the name of its interpreter; by a link, too."""
+        with tempfile.TemporaryDirectory(prefix="tmhost-python-test.") as folder:
+            os.symlink(os.path.join(ROOT, "adapters"), os.path.join(folder, "adapters"))
+            for path in (os.path.join(ROOT, "adapters", "python"), os.path.join(folder, "adapters", "python")):
+                self.assertIsNone(starting.doubt([path]), path)
+
     def test_what_never_answers(self) -> None:
         """It is certain of a name that PATH finds, or of the same file, and not of an adapter that goes by that name."""
         with tempfile.TemporaryDirectory(prefix="tmhost-python-test.") as folder:

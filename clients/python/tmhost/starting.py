@@ -89,10 +89,16 @@ def adapter_words(name: str) -> Optional[str]:
     return COMMAND + adapter if adapter else f"{COMMAND}jupyter KERNEL" if base in BY_KERNEL else None
 
 
+def is_our_adapter(path: str) -> bool:
+    """Whether this is an adapter that came with this program, by whichever path."""
+    return os.path.realpath(path).startswith(os.path.join(ROOT, "adapters", ""))
+
+
 def without_adapter(words: Sequence[str]) -> Optional[str]:
     """What is to be said of words that start an interpreter by its bare name. It doesn't speak the protocol then, so no answer of it is ever seen."""
-    name = os.path.basename(words[0]) if words and all(word in STAYS_BARE for word in words[1:]) else ""
-    start = adapter_words(name)
+    word = words[0] if words and all(option in STAYS_BARE for option in words[1:]) else ""
+    name = os.path.basename(word)
+    start = None if "/" in word and is_our_adapter(word) else adapter_words(name)
     return f"{name} by itself has no blocks for its answers: the words {start} start it with an adapter" if start else None
 
 
@@ -100,7 +106,7 @@ def never_answers(words: Sequence[str]) -> Optional[str]:
     """The same, where it is certain: of a name that PATH finds, or a path to the same file, and not of an adapter that goes by such a name."""
     why = without_adapter(words)
     found = shutil.which(os.path.basename(words[0]), path=search_path()) if why else None
-    if not found or os.path.realpath(found).startswith(os.path.join(ROOT, "adapters", "")):
+    if not found or is_our_adapter(found):
         return None
     return why if "/" not in words[0] or os.path.realpath(words[0]) == os.path.realpath(found) else None
 

@@ -1,5 +1,6 @@
 """The command in a pipe: answers in order, notes on standard error, and the status."""
 import os
+import shlex
 import shutil
 import signal
 import subprocess
@@ -38,6 +39,49 @@ class Pipe(Case):
         self.assertEqual(self.pipe("x\n", self.sheet, "t"), (1, "", f"tmhost-repl: {self.sheet}: fault 30 Damaged at 10: {said}\n"))
         os.truncate(self.sheet, 3)
         self.assertEqual(self.pipe("x\n", self.sheet, "t"), (1, "", f"tmhost-repl: {self.sheet}: fault 31 NotASheet: it is no worksheet, or it was cut or is empty; look at the path\n"))
+
+    def test_a_worksheet_for_which_there_is_no_room(self) -> None:
+        """Its files are left empty, which is said, and again where they are in the way. A limit of the size of files stands for a disk that is full."""
+        full = os.path.join(self.folder, "full")
+        with open(full, "w", encoding="utf-8") as file:
+            file.write(f"#!/bin/sh\ntrap '' XFSZ\nulimit -f 0\nexec {shlex.quote(PROGRAM)} \"$@\"\n")
+        os.chmod(full, 0o755)
+        left = f"tmhost-repl: {self.sheet} and {self.sheet}.alt are empty: remove both, then make the worksheet again\n"
+        disk = "fault 32 Disk: it can't be opened, read or written; look at the path, at who may write there, and for room on the disk"
+        given = ("x\n", "--create", self.sheet, "t", *INTERPRETER)
+        self.assertEqual(self.pipe(*given, TMHOST=full), (1, "", f"tmhost-repl: {self.sheet}: {disk}\n{left}"))
+        self.assertEqual([os.path.getsize(self.sheet + end) for end in ("", ".alt")], [0, 0])
+        self.assertEqual(self.pipe(*given), (1, "", f"tmhost-repl: {self.sheet}: fault 31 NotASheet: it is no worksheet, or it was cut or is empty; look at the path\n{left}"))
+        for end in ("", ".alt"):
+            os.unlink(self.sheet + end)
+        self.assertEqual(self.pipe(*given), (0, "x\n", ""))
+
+    def test_an_empty_file_beside_one_that_has_something(self) -> None:
+        """The second file may be what is left of a worksheet."""
+        self.make()
+        with open(self.sheet + ".alt", "wb") as file:
+            file.write(b"something")
+        os.truncate(self.sheet, 0)
+        status, out, errors = self.pipe("x\n", self.sheet, "t")
+        self.assertEqual((status, out, len(errors.splitlines())), (1, "", 1), errors)
+
+    @unittest.skipUnless(os.path.exists("/dev/full"), "there is no /dev/full")
+    def test_a_help_that_cannot_be_written(self) -> None:
+        """On a full disk a line says why. Of a pipe whose reader has gone nothing is said: that has seen enough."""
+        reader, writer = os.pipe()
+        os.close(reader)
+        with open("/dev/full", "wb") as full, os.fdopen(writer, "wb") as gone:
+            for output, said in ((full, "tmhost-repl: No space left on device\n"), (gone, "")):
+                done = subprocess.run([sys.executable, "-B", COMMAND, "--help"], stdout=output, stderr=subprocess.PIPE, text=True)
+                self.assertEqual((done.returncode, done.stderr), (1, said))
+
+    @unittest.skipUnless(os.path.exists("/dev/full"), "there is no /dev/full")
+    def test_answers_that_cannot_be_written(self) -> None:
+        self.make()
+        with open("/dev/full", "wb") as full:
+            words = [sys.executable, "-B", COMMAND, self.sheet, "t"]
+            done = subprocess.run(words, input=b"one\n", stdout=full, stderr=subprocess.PIPE, env=environment(), timeout=300)
+        self.assertEqual((done.returncode, done.stderr), (1, b"tmhost-repl: No space left on device\n"))
 
     def test_what_starts_no_interpreter(self) -> None:
         self.make()

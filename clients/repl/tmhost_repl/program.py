@@ -7,10 +7,11 @@ import sys
 from types import FrameType
 from typing import List, Optional
 
-from tmhost import BadLine, Refused, TmhostError, Worksheet
-from tmhost.advice import advised
+from tmhost import BadLine, InUse, Refused, TmhostError, Worksheet
+from tmhost.advice import SECOND, advised
 from tmhost.program import show_building
 from tmhost.version import ShowVersion
+from tmhost_fences.output import Parser, give_up, run_and_flush
 
 from .commands import PROSE, Commands, Mistake, ensure, explained, refuse_bare
 from .completion import Draft
@@ -22,7 +23,7 @@ LOST, BAD_WORDS, INTERRUPTED = 1, 2, 130
 
 
 def options(words: List[str]) -> argparse.Namespace:
-    parser = argparse.ArgumentParser(
+    parser = Parser(
         prog="tmhost-repl",
         description="A worksheet at a terminal: each line is a field at its end, and its answer is shown when it is on the disk.",
         epilog="The program is the one that TMHOST names, tmhost on PATH, or the one that was built or installed with this. In a pipe the status is 1 where an answer was lost. %help, as "
@@ -138,7 +139,7 @@ def end_in_order(number: int, frame: Optional[FrameType]) -> None:
     sys.exit(128 + number)
 
 
-def main(words: List[str]) -> int:
+def ran(words: List[str]) -> int:
     given = options(words)
     console = new_console()
     for number in (signal.SIGTERM, signal.SIGHUP):
@@ -163,9 +164,20 @@ def reported(given: argparse.Namespace, console: Console) -> int:
     except (KeyboardInterrupt, EOFError):
         console.note("ended")
         return INTERRUPTED
-    except BrokenPipeError:  # nobody reads our output any more
-        os.dup2(os.open(os.devnull, os.O_WRONLY), sys.stdout.fileno())
-        return LOST
+    except BrokenPipeError:
+        raise  # nobody reads our output any more
     except (TmhostError, OSError) as error:
         console.note(advised(error, given.sheet))
+        if not isinstance(error, InUse) and is_left_empty(given.sheet):
+            console.note(f"{given.sheet} and {given.sheet}{SECOND} are empty: remove both, then make the worksheet again")
+        give_up(sys.stdout)  # of a full disk all is said
         return LOST
+
+
+def is_left_empty(path: str) -> bool:
+    """Whether both files are those of a worksheet for which there was no room when it was made: they are in the way of another one."""
+    return all(os.path.isfile(name) and not os.path.getsize(name) for name in (path, path + SECOND))
+
+
+def main(words: List[str]) -> int:
+    return run_and_flush("tmhost-repl", ran, words)

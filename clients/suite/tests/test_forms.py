@@ -149,8 +149,8 @@ class Notebooks(Forms):
         """One as nbformat writes it."""
         whole = {
             "cells": [
-                {"cell_type": "code", "execution_count": None, "id": f"c{at}", "metadata": {}, "outputs": outputs, "source": source}
-                for at, (source, outputs) in enumerate(cells)
+                {"cell_type": "code", "execution_count": at, "id": f"c{at}", "metadata": {}, "outputs": outputs, "source": source}
+                for at, (source, outputs) in enumerate(cells, 1)
             ],
             "metadata": {"kernelspec": {"display_name": language, "language": language, "name": language}},
             "nbformat": 4,
@@ -166,6 +166,19 @@ class Notebooks(Forms):
         path = self.notebook("R", [("say 1", [self.result("1")]), ("say Error: no x", [error]), ("say 2", [error]), ("say 3", [self.result("4")])])
         self.assertEqual(self.verdicts(path, "--words", self.words_of_the_tests()), ["ok", "ok", "differs", "differs"])
         self.assertIn("the notebook is in R: --words names the interpreter", self.run_suite(path).errors)
+
+    def test_one_that_was_never_run(self) -> None:
+        """Nothing is wanted of its cells, nor is that they say nothing."""
+        path = self.notebook("python", [("1 + 1", []), ("x = 3", []), ("# NBVAL_IGNORE_OUTPUT\nx", []), ("x", [self.result("3")])])
+        self.assertEqual(self.verdicts(path), ["differs", "ok", "ok", "ok"])
+        whole = json.loads(self.read(path))
+        for cell in whole["cells"]:
+            cell["execution_count"] = None
+        self.put("a.ipynb", json.dumps(whole))
+        self.assertEqual(self.verdicts(path), ["new", "ok", "ok", "ok"])
+        self.put("a.md", self.convert(path))
+        self.assertEqual(self.verdicts(self.place("a.md"), "--accept"), ["new", "ok", "ok", "ok"])
+        self.assertEqual(self.verdicts(self.place("a.md")), ["ok"] * 4, self.read(self.place("a.md")))
 
     def test_in_python(self) -> None:
         stream = {"output_type": "stream", "name": "stdout", "text": ["a\n", "b\n"]}

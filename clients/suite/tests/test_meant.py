@@ -18,7 +18,7 @@ class Chosen(Case):
         self.write(case("say x", "x", "b"), path=other)
         ran = self.run_suite(self.path, other, "--only", "wait 2")
         lines = ran.errors.splitlines()
-        self.assertEqual((ran.status, lines[0], lines[-1], len(lines)), (1, f"{NONE}: none has the line or the first line wait 2; there are", "  and 12 others", 22))
+        self.assertEqual((ran.status, lines[0], lines[-1], len(lines)), (1, f"{NONE}: none has the line, the name or the first line wait 2; there are", "  and 12 others", 22))
         self.assertIn(f"  {self.path}:{self.read().split(chr(10)).index('wait 1')} wait 1", lines)
         self.assertEqual(sorted(lines[1:-1], key=lambda line: int(line.split(":")[1].split()[0]) + (other in line) * 10_000), lines[1:-1])
 

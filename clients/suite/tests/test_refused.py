@@ -79,10 +79,18 @@ class Output(Case):
         """It has seen enough, as `head` has, so nothing is said."""
         self.write(case("say 1", "1"))
         for more in (["--help"], [self.path]):
-            reader, writer = os.pipe()
-            os.close(reader)
-            try:
-                ran = subprocess.run(words(*more), stdout=writer, stderr=subprocess.PIPE, text=True, env=environment(), cwd=self.folder, timeout=LIMIT)
-            finally:
-                os.close(writer)
-            self.assertEqual((ran.returncode, ran.stderr), (1, ""))
+            for unbuffered in ("", "1"):
+                reader, writer = os.pipe()
+                os.close(reader)
+                with self.subTest(more, unbuffered=unbuffered), os.fdopen(writer, "wb") as gone:
+                    variables = {**environment(), "PYTHONUNBUFFERED": unbuffered}
+                    ran = subprocess.run(words(*more), stdout=gone, stderr=subprocess.PIPE, text=True, env=variables, cwd=self.folder, timeout=LIMIT)
+                    self.assertEqual((ran.returncode, ran.stderr), (1, ""))
+
+    def test_an_output_that_is_closed(self) -> None:
+        """By `>&-` of a shell."""
+        self.write(case("say 1", "1"))
+        for more in (["--help"], [self.path]):
+            started = ["sh", "-c", 'exec "$@" >&-', "", *words(*more)]
+            ran = subprocess.run(started, stderr=subprocess.PIPE, text=True, env=environment(), cwd=self.folder, timeout=LIMIT)
+            self.assertEqual((ran.returncode, ran.stderr), (1, "tmhost-suite: Bad file descriptor\n"))

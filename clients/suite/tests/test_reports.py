@@ -1,16 +1,18 @@
-"""Suites that can't be read or run, in all reports; TAP of both versions."""
+"""What reports have: of cases, and of suites that can't be read or run; names; TAP of both versions."""
 import importlib
 import json
 import os
+import resource
 import shutil
+import stat
 import subprocess
 import unittest
 import xml.etree.ElementTree
-from typing import Any, List
+from typing import Any, List, Tuple
 
-from .support import Case, case, without_seconds
-from .test_running import SCHEMA
+from .support import HERE, LIMIT, Case, case, environment, without_seconds, words
 
+SCHEMA = os.path.join(os.path.dirname(HERE), "report.schema.json")
 BROKEN = {
     "bad.py": "def f(:\n    '''\n    >>> 1\n    '''\n",
     "prefix.py": "def f():\n    '''\n      >>> 1\n    1\n    '''\n",
@@ -20,6 +22,95 @@ BROKEN = {
     "yaml.md": "---\nsessions: {a: [x\n---\n",
     "mark.md": "---\nsessions: {a: [x]}\n---\n```a {setpu}\nx\n```\n",
 }
+
+
+class Reports(Case):
+    def setUp(self) -> None:
+        super().setUp()
+        self.write(case("say <1>", "<1>"), case("say \\\\x02&#", "]]>\u2028"), case("say 5", "6", "a {xfail n#t}"), case("x", "", "a {skip}"))
+
+    def test_tap(self) -> None:
+        lines = self.run_suite(self.path, "--tap", "-").output.split("\n")
+        lines = lines[lines.index("TAP version 13") :]
+        self.assertEqual(lines[1], "1..4")
+        points = [line for line in lines if line.startswith(("ok", "not ok"))]
+        self.assertEqual(points[0], f"ok 1 - {self.path}:7 say <1>")
+        self.assertTrue(points[1].startswith(f"not ok 2 - {self.path}:17 "))
+        self.assertEqual(points[2:], [f"not ok 3 - {self.path}:27 say 5 # TODO n#t", f"ok 4 - {self.path}:37 x # SKIP"])
+
+    def test_errors_are_reported(self) -> None:
+        """An answer that its interpreter reports as an error is reported as one, wanted or not, also by a run that goes on."""
+        self.write(case("error a\\n|no", "a\nno"), case("error |way", "none"), case("say none", "way"), case("error |new"))
+        found = self.objects(self.path)
+        self.assertEqual([(one["verdict"], one["isError"]) for one in found], [("ok", True), ("differs", True), ("differs", False), ("new", True)])
+        self.assertIn("differs, an error: ", self.outcome.output)
+        self.run_suite(self.path, "--junit", self.place("report.xml"))
+        tree = xml.etree.ElementTree.parse(self.place("report.xml"))
+        self.assertEqual([one.get("type") for one in tree.iter("failure")], ["error", "answer", "error"])
+
+    def test_junit_is_xml(self) -> None:
+        report = self.place("report.xml")
+        self.run_suite(self.path, "--junit", report)
+        suite = xml.etree.ElementTree.parse(report).getroot()[0]
+        self.assertEqual((suite.get("tests"), suite.get("failures"), suite.get("skipped")), ("4", "1", "2"))
+        self.assertEqual([[child.tag for child in one] for one in suite], [[], ["failure"], ["skipped"], ["skipped"]])
+
+    def test_names_in_all_reports(self) -> None:
+        """A case has its own one in each, and by that it is chosen. It isn't changed by what stands above."""
+        named = case("say 1", "1", "a {name the first, said again}")
+        above: List[List[str]] = [[], [case("say 1", "1"), case("the first, said again")]]
+        for more in above:
+            self.write(*more, case("say 1", "2"), named)
+            line = self.read().split("\n").index("````a {name the first, said again}") + 1
+            self.run_suite(self.path, "--junit", self.place("report.xml"), "--tap", self.place("tap"))
+            names = [one.get("name", "") for one in xml.etree.ElementTree.parse(self.place("report.xml")).getroot()[0]]
+            self.assertEqual(names, (["say 1", "the first, said again (2)", "say 1 (2)"] if more else ["say 1"]) + ["the first, said again"])
+            self.assertIn(f"- {self.path}:{line} the first, said again\n", self.read(self.place("tap")))
+            self.assertEqual([one["name"] for one in self.objects(self.path)][-2:], ["say 1", "the first, said again"])
+        self.write(case("say 1", "2"), named)
+        self.assertEqual([one["name"] for one in self.objects(self.path, "--only", "the first*")], ["the first, said again"])
+        self.assertEqual([one["verdict"] for one in self.objects(self.path, "--only", "say 1")], ["differs"])
+
+    def test_names_in_junit_stay(self) -> None:
+        """Where the text above changes, but for one with the same first line; the line is apart from the name."""
+        cases = [case("say 1", "1"), case("x\ny"), case("say 1", "1")]
+        names: List[List[Tuple[str, str, str]]] = []
+        above: List[List[str]] = [[], [case("say new", "new")]]
+        for more in above:
+            self.write(*more, *cases)
+            self.run_suite(self.path, "--junit", self.place("report.xml"), GITHUB_WORKSPACE=self.folder)
+            found = xml.etree.ElementTree.parse(self.place("report.xml")).getroot()[0][len(more) :]
+            names.append([(one.get("name", ""), one.get("file", ""), one.get("line", "")) for one in found])
+        self.assertEqual([[one[0] for one in these] for these in names], [["say 1", "x", "say 1 (2)"]] * 2)
+        self.assertEqual({one[1] for these in names for one in these}, {os.path.basename(self.path)})
+        self.assertNotEqual([one[2] for one in names[0]], [one[2] for one in names[1]])
+
+    def test_json_is_by_its_schema(self) -> None:
+        try:
+            jsonschema: Any = importlib.import_module("jsonschema")
+        except ImportError:
+            raise unittest.SkipTest("there is no jsonschema") from None
+        with open(SCHEMA, encoding="utf-8") as file:
+            schema = json.load(file)
+        for one in self.objects(self.path):
+            jsonschema.validate(one, schema)
+
+    def test_control_characters_are_written_out(self) -> None:
+        self.write(case("say \x1b[31m \x85 \u2028 1..2", "1"), case("x", "", "a {skip \u2029 why}"))
+        for form in ("tap", "github"):
+            output = self.run_suite(self.path, f"--{form}", "-").output
+            self.assertEqual([c for c in output if not c.isprintable() and c not in "\n\t"], [], form)
+        self.run_suite(self.path, "--junit", self.place("report.xml"))
+        self.assertEqual(len(xml.etree.ElementTree.parse(self.place("report.xml")).getroot()[0]), 2)
+
+    def test_remarks(self) -> None:
+        github = self.run_suite(self.path, "--github", "-").output
+        self.assertIn(f"::error file={self.path},line=17,title=differs%3A ", github)
+        inside = self.run_suite(self.path, "--github", "-", GITHUB_WORKSPACE=os.path.dirname(self.path)).output
+        self.assertIn(f"::error file={os.path.basename(self.path)},line=17,title=differs%3A ", inside)
+        report = self.place("gitlab.json")
+        self.run_suite(self.path, "--gitlab", report)
+        self.assertEqual([one["location"]["lines"]["begin"] for one in json.loads(self.read(report))], [17])
 
 
 class Troubles(Case):
@@ -64,6 +155,39 @@ class Troubles(Case):
             ran = self.run_suite(self.path, option, path)
             self.assertEqual((ran.status, ran.output, ran.errors), (1, "", f"tmhost-suite: {option}: {why}\n"))
         self.assertFalse(os.path.exists(self.path + ".run"))
+
+    def test_a_report_for_which_there_is_no_room(self) -> None:
+        """What was there stays, whole; the others are written, and what else went wrong is said. A limit of the size of a file stands for a disk that is
+        full. What is in the way of XML takes more room there than in the worksheet."""
+        self.write(case("\n".join([f"say {'<' * 3_000}"] * 4)))
+        self.make_file("report.xml", "<before/>")
+        os.symlink("report.xml", self.place("link.xml"))
+        os.chmod(self.place("report.xml"), 0o640)
+        words_of_run = words(self.path, self.broken[0], "--junit", "link.xml", "--tap", "tap")
+        limit = lambda: resource.setrlimit(resource.RLIMIT_FSIZE, (40_000, 40_000))
+        ran = subprocess.run(words_of_run, capture_output=True, text=True, env=environment(), cwd=self.folder, timeout=LIMIT, preexec_fn=limit)
+        self.assertEqual((ran.returncode, self.read(self.place("report.xml"))), (1, "<before/>"))
+        last = "tmhost-suite: --junit: link.xml isn't written: File too large; --resume writes it, by what is kept"
+        self.assertEqual([ran.stderr.splitlines()[0].partition(" line ")[0], *ran.stderr.splitlines()[1:]], [f"tmhost-suite: {self.broken[0]}:", last])
+        self.assertIn(f"\nnot ok 1 - {self.path}:7 say <", self.read(self.place("tap")))
+        self.assertEqual([name for name in os.listdir(self.folder) if "tmhost-weave" in name], [])
+        # That evaluates nothing again.
+        before = self.log("a")
+        ran = subprocess.run([*words_of_run, "--resume"], capture_output=True, text=True, env=environment(), cwd=self.folder, timeout=LIMIT)
+        self.assertEqual((self.log("a"), len(ran.stderr.splitlines())), (before, 1), ran.stderr)
+        self.assertEqual(xml.etree.ElementTree.parse(self.place("report.xml")).getroot()[0][0].get("name"), f"say {'<' * 53}...")
+        self.assertEqual((os.readlink(self.place("link.xml")), stat.S_IMODE(os.stat(self.place("report.xml")).st_mode)), ("report.xml", 0o640))
+
+    def test_a_report_that_is_no_file(self) -> None:
+        """It is written to, and stays what it is."""
+        self.write(case("say 1", "1"))
+        self.assertEqual(self.run_suite(self.path, "--junit", "/dev/null").status, 0)
+        self.assertTrue(stat.S_ISCHR(os.stat("/dev/null").st_mode))
+        os.mkfifo(self.place("pipe"))
+        with subprocess.Popen(["cat", self.place("pipe")], stdout=subprocess.PIPE, text=True) as reader:
+            self.assertEqual(self.run_suite(self.path, "--tap", self.place("pipe")).status, 0)
+            self.assertEqual(reader.communicate(timeout=LIMIT)[0].splitlines()[:3], ["TAP version 13", "1..1", f"ok 1 - {self.path}:7 say 1"])
+        self.assertTrue(stat.S_ISFIFO(os.stat(self.place("pipe")).st_mode))
 
     def test_lines_of_json_are_by_the_schema(self) -> None:
         try:

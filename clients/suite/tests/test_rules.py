@@ -1,4 +1,4 @@
-"""How what came is compared with what is wanted."""
+"""How what came is compared with what is wanted, and what is said of rules."""
 import dataclasses
 import random
 import re
@@ -7,7 +7,7 @@ from decimal import Decimal
 from fractions import Fraction
 from typing import Callable, List, Tuple
 
-from . import support  # noqa: F401
+from .support import Case, case
 from tmhost_suite.rules import Normal, Rules, as_wanted, exactly
 
 
@@ -198,3 +198,19 @@ class Normals(unittest.TestCase):
         applied: "set[int]" = set()
         self.assertFalse(Rules((Normal(re.compile("z"), ""),)).are_alike("a", "b", applied))
         self.assertEqual(applied, set())
+
+
+class Said(Case):
+    def test_rules_that_find_nothing_are_reported(self) -> None:
+        self.write(case("say 0x12", "0xff"), more="normal: {'0x[0-9a-f]+': N, 'never': M}\n")
+        ran = self.run_suite(self.path, "--verbose")
+        self.assertEqual(ran.status, 0)
+        self.assertIn("the rule 'never' found nothing", ran.output)
+        self.assertNotIn("'0x[0-9a-f]+' found nothing", ran.output)
+        self.assertIn(f"normalised: {self.path}:8 say 0x12\n  N\n", ran.output)
+
+    def test_rules_of_one_case(self) -> None:
+        self.write(case("say 17 ms", "TIME", "a {normal '[0-9]+ ms' TIME}"), case("say 17 ms", "TIME"), case("say 1.01", "1.0", "a {tolerance 0.1} {normal z y}"), case("say 1.01", "1.0"))
+        self.assertEqual(self.verdicts(self.path), ["ok", "differs", "ok", "differs"])
+        self.assertIn("say 1.01: its rule 'z' found nothing", self.outcome.output)
+        self.assertNotIn("ms' found nothing", self.outcome.output)

@@ -1,22 +1,16 @@
-"""Cases over the real program: verdicts, interpreters that end or loop, what is chosen, reports."""
+"""Cases over the real program: verdicts, interpreters that end or loop, what is chosen."""
 import errno
-import importlib
-import json
 import os
 import shutil
 import signal
 import subprocess
 import tempfile
-import unittest
-import xml.etree.ElementTree
-from typing import Any, List, Tuple
+from typing import Any, List
 from unittest import mock
 
-from .support import HERE, Case, case, environment, heed_interrupts, without_seconds, words
+from .support import Case, case, environment, heed_interrupts, without_seconds, words
 from tmhost_fences.troubles import Trouble
 from tmhost_suite.kept import make
-
-SCHEMA = os.path.join(os.path.dirname(HERE), "report.schema.json")
 
 
 class Verdicts(Case):
@@ -149,7 +143,7 @@ class Verdicts(Case):
         self.assertEqual(self.log("a"), ["say 1", "say end"])
 
     def test_a_field_that_is_too_long(self) -> None:
-        self.write(case("say " + "x" * 5000, "? refused: it has 5,004 bytes, and a field has at most 4,095"), case("say y", "y"))
+        self.write(case("say " + "x" * 5000, "? refused: it has 5,004 bytes, and a field has at most 4,095: cut it into several, or load it from a file"), case("say y", "y"))
         self.assertEqual(self.verdicts(self.path), ["ok", "ok"])
 
     def test_flaky(self) -> None:
@@ -275,7 +269,7 @@ class Worksheets(Case):
         for length in (4_096, 20_000):
             self.write(case("x" * length + "\n\nsay 1", "1"), case("say 2", "2"))
             self.assertEqual(self.verdicts(self.path), ["differs", "ok"])
-            self.assertIn(f"? refused: it has {length:,} bytes, and a field has at most 4,095", self.outcome.output)
+            self.assertIn(f"? refused: it has {length:,} bytes, and a field has at most 4,095: cut it into several, or load it from a file", self.outcome.output)
 
     def test_a_suite_that_cannot_run_takes_no_other_with_it(self) -> None:
         self.write(case("say 1", "1"))
@@ -322,7 +316,7 @@ class Chosen(Case):
         self.write(case("say 1", "1"))
         ran = self.run_suite(self.path, "--only", "other")
         self.assertEqual(ran.status, 1)
-        self.assertEqual(ran.errors, f"tmhost-suite: no case is one of those that are to be run: none has the line or the first line other; there are\n  {self.path}:7 say 1\n")
+        self.assertEqual(ran.errors, f"tmhost-suite: no case is one of those that are to be run: none has the line, the name or the first line other; there are\n  {self.path}:7 say 1\n")
 
     def test_a_text_without_a_case_is_no_success(self) -> None:
         self.write(case("say x", info="other"))
@@ -354,90 +348,3 @@ class Chosen(Case):
         self.assertNotEqual(orders[0], orders[2])
         self.assertEqual([order[0] for order in orders], ["say s"] * 3)
         self.assertEqual(sorted(orders[0]), sorted(orders[2]))
-
-
-class Reports(Case):
-    def setUp(self) -> None:
-        super().setUp()
-        self.write(case("say <1>", "<1>"), case("say \\\\x02&#", "]]>\u2028"), case("say 5", "6", "a {xfail n#t}"), case("x", "", "a {skip}"))
-
-    def test_tap(self) -> None:
-        lines = self.run_suite(self.path, "--tap", "-").output.split("\n")
-        lines = lines[lines.index("TAP version 13") :]
-        self.assertEqual(lines[1], "1..4")
-        points = [line for line in lines if line.startswith(("ok", "not ok"))]
-        self.assertEqual(points[0], f"ok 1 - {self.path}:7 say <1>")
-        self.assertTrue(points[1].startswith(f"not ok 2 - {self.path}:17 "))
-        self.assertEqual(points[2:], [f"not ok 3 - {self.path}:27 say 5 # TODO n#t", f"ok 4 - {self.path}:37 x # SKIP"])
-
-    def test_errors_are_reported(self) -> None:
-        """An answer that its interpreter reports as an error is reported as one, wanted or not, also by a run that goes on."""
-        self.write(case("error a\\n|no", "a\nno"), case("error |way", "none"), case("say none", "way"), case("error |new"))
-        found = self.objects(self.path)
-        self.assertEqual([(one["verdict"], one["isError"]) for one in found], [("ok", True), ("differs", True), ("differs", False), ("new", True)])
-        self.assertIn("differs, an error: ", self.outcome.output)
-        self.run_suite(self.path, "--junit", self.place("report.xml"))
-        tree = xml.etree.ElementTree.parse(self.place("report.xml"))
-        self.assertEqual([one.get("type") for one in tree.iter("failure")], ["error", "answer", "error"])
-
-    def test_junit_is_xml(self) -> None:
-        report = self.place("report.xml")
-        self.run_suite(self.path, "--junit", report)
-        suite = xml.etree.ElementTree.parse(report).getroot()[0]
-        self.assertEqual((suite.get("tests"), suite.get("failures"), suite.get("skipped")), ("4", "1", "2"))
-        self.assertEqual([[child.tag for child in one] for one in suite], [[], ["failure"], ["skipped"], ["skipped"]])
-
-    def test_names_in_junit_stay(self) -> None:
-        """Where the text above changes; the line is apart from the name."""
-        cases = [case("say 1", "1"), case("x\ny"), case("say 1", "1")]
-        names: List[List[Tuple[str, str, str]]] = []
-        above: List[List[str]] = [[], [case("say new", "new")]]
-        for more in above:
-            self.write(*more, *cases)
-            self.run_suite(self.path, "--junit", self.place("report.xml"), GITHUB_WORKSPACE=self.folder)
-            found = xml.etree.ElementTree.parse(self.place("report.xml")).getroot()[0][len(more) :]
-            names.append([(one.get("name", ""), one.get("file", ""), one.get("line", "")) for one in found])
-        self.assertEqual([[one[0] for one in these] for these in names], [["say 1", "x", "say 1 (2)"]] * 2)
-        self.assertEqual({one[1] for these in names for one in these}, {os.path.basename(self.path)})
-        self.assertNotEqual([one[2] for one in names[0]], [one[2] for one in names[1]])
-
-    def test_json_is_by_its_schema(self) -> None:
-        try:
-            jsonschema: Any = importlib.import_module("jsonschema")
-        except ImportError:
-            raise unittest.SkipTest("there is no jsonschema") from None
-        with open(SCHEMA, encoding="utf-8") as file:
-            schema = json.load(file)
-        for one in self.objects(self.path):
-            jsonschema.validate(one, schema)
-
-    def test_control_characters_are_written_out(self) -> None:
-        self.write(case("say \x1b[31m \x85 \u2028 1..2", "1"), case("x", "", "a {skip \u2029 why}"))
-        for form in ("tap", "github"):
-            output = self.run_suite(self.path, f"--{form}", "-").output
-            self.assertEqual([c for c in output if not c.isprintable() and c not in "\n\t"], [], form)
-        self.run_suite(self.path, "--junit", self.place("report.xml"))
-        self.assertEqual(len(xml.etree.ElementTree.parse(self.place("report.xml")).getroot()[0]), 2)
-
-    def test_remarks(self) -> None:
-        github = self.run_suite(self.path, "--github", "-").output
-        self.assertIn(f"::error file={self.path},line=17,title=differs%3A ", github)
-        inside = self.run_suite(self.path, "--github", "-", GITHUB_WORKSPACE=os.path.dirname(self.path)).output
-        self.assertIn(f"::error file={os.path.basename(self.path)},line=17,title=differs%3A ", inside)
-        report = self.place("gitlab.json")
-        self.run_suite(self.path, "--gitlab", report)
-        self.assertEqual([one["location"]["lines"]["begin"] for one in json.loads(self.read(report))], [17])
-
-    def test_rules_that_find_nothing_are_reported(self) -> None:
-        self.write(case("say 0x12", "0xff"), more="normal: {'0x[0-9a-f]+': N, 'never': M}\n")
-        ran = self.run_suite(self.path, "--verbose")
-        self.assertEqual(ran.status, 0)
-        self.assertIn("the rule 'never' found nothing", ran.output)
-        self.assertNotIn("'0x[0-9a-f]+' found nothing", ran.output)
-        self.assertIn(f"normalised: {self.path}:8 say 0x12\n  N\n", ran.output)
-
-    def test_rules_of_one_case(self) -> None:
-        self.write(case("say 17 ms", "TIME", "a {normal '[0-9]+ ms' TIME}"), case("say 17 ms", "TIME"), case("say 1.01", "1.0", "a {tolerance 0.1} {normal z y}"), case("say 1.01", "1.0"))
-        self.assertEqual(self.verdicts(self.path), ["ok", "differs", "ok", "differs"])
-        self.assertIn("say 1.01: its rule 'z' found nothing", self.outcome.output)
-        self.assertNotIn("ms' found nothing", self.outcome.output)

@@ -1,4 +1,5 @@
 """Test files of GAP and of Octave: how they are read, and what comes of them over the real interpreters."""
+import re
 import shutil
 import unittest
 from typing import List, Tuple
@@ -6,6 +7,7 @@ from typing import List, Tuple
 from .support import Case
 from tmhost_suite.forms import GAP, OCTAVE
 from tmhost_suite.readers import as_text
+from tmhost_suite.text import Text
 from tmhost_suite.transcripts import read_gap, read_octave
 
 GAP_TEXT = """# A remark before the first prompt.
@@ -92,6 +94,13 @@ OCTAVE_WANTED = (
     + ["ok", "ok", "differs", "ok", "differs", "differs", "ok", "ok", "differs"]
     + ["ok", "xfail", "ok", "xfail", "ok", "skip", "skip", "ok", "ok"]
 )
+OCTAVE_NAMES = [
+    "shared x, y  # a remark", "function z = twice (z)", "assert (twice (x), 6)", "assert (isempty (y))", "x = 5;", "assert (x, 5);", "assert (x,",
+    'error <no such> error ("my:id", "there is no such thing")', 'error <^there> error ("my:id", "there is no such thing")', 'error <^is> error ("my:id", "there is no such thing")',
+    'error id=my:id error ("my:id", "there is no such thing")', 'error id=my:other error ("my:id", "there is no such thing")', "error <no such> x = 1;",
+    'error <syntax error> eval ("1 +")', 'warning <care> warning ("take care")', "warning <care> x = 1;", "assert (true);", "assert (false);", "assert (true);", "assert (false);",
+    'assert (["abc\\', "assert (false);", "assert (false);", "assert (true);", "fail (\"error ('of course')\", \"course\")",
+]
 
 
 class Reading(unittest.TestCase):
@@ -120,6 +129,16 @@ class Reading(unittest.TestCase):
         self.assertEqual([case.marks.is_independent for case in suite.cases], [True] * 3 + [False] * 3)
         self.assertEqual(as_text(suite)[0].count("{independent}"), 3)
 
+    def test_a_block_has_the_name_that_its_file_shows(self) -> None:
+        """Not that of the function in which it is evaluated. Its text form has that of its code."""
+        suite = read_octave("a.m", OCTAVE_TEXT, OCTAVE)
+        self.assertEqual([case.title for case in suite.cases], [name if len(name) <= 60 else name[:57] + "..." for name in OCTAVE_NAMES])
+        texts = ("%!test <*12345> x = 1;\n", "%!test\n%!\n%! y\n", "%!test\n", "%!error\n%! f (x)\n", "%!error(f)\n", "%!assert <*12> (1)\n", "%!testif HAVE_X\n%! z\n", "%!xtest <1>\n%! u\n")
+        names = ["x = 1;", "y", "test", "error f (x)", "error(f)", "assert <*12> (1)", "z", "u"]
+        self.assertEqual([read_octave("a.m", text, OCTAVE).cases[0].title for text in texts], names)
+        text = as_text(read_octave("a.m", "".join(texts[:2]) + "%!error id=my:id f (x)\n%!shared v\n%!error <a> f (v)\n", OCTAVE))[0]
+        self.assertEqual([case.title for case in Text("a.md", text).cases], ["x = 1;", "y", "f (x)", "v = [];", "f (v)"])
+
     def test_of_octave_no_demonstration_is_read(self) -> None:
         suite = read_octave("a.m", OCTAVE_TEXT, OCTAVE)
         self.assertEqual(len(suite.cases), len(OCTAVE_WANTED))
@@ -138,6 +157,18 @@ class Running(Case):
         found = self.verdicts(self.put("a.tst", GAP_TEXT))
         # The remark that `Print` writes looks like one of the file, as to GAP's own `Test`.
         self.assertEqual(found, ["skip", "ok", "differs", "ok", "ok", "skip", "differs", "skip"], self.outcome.output)
+
+    @unittest.skipUnless(shutil.which("octave-cli"), "there is no octave-cli")
+    def test_octave_by_name_and_line(self) -> None:
+        """The line is the one that is listed."""
+        path = self.put("a.tst", "%!assert (1+1, 2)\n%!test\n%! x = 1;\n%! assert (x, 1);\n%!assert (2+2, 5)\n%!assert (3+3, 6)\n")
+        names = ["assert (1+1, 2)", "x = 1;", "assert (2+2, 5)", "assert (3+3, 6)"]
+        self.assertEqual([one["name"] for one in self.objects(path, "--junit", self.place("report.xml"))], names)
+        self.assertEqual(re.findall(r' line="\d+" name="(.*?)"', self.read(self.place("report.xml"))), names)
+        listed = [f"  {path}:{line} {name}" for line, name in zip((1, 2, 5, 6), names)]
+        self.assertEqual(self.run_suite(path, "--only", "zzz").errors.splitlines()[1:], listed)
+        for given, meant in (("5", "assert (2+2, 5)"), ("assert (2+2, 5)", "assert (2+2, 5)"), ("2", "x = 1;"), ("*3+3*", "assert (3+3, 6)")):
+            self.assertEqual([one["name"] for one in self.objects(path, "--only", given)], [meant])
 
     @unittest.skipUnless(shutil.which("octave-cli"), "there is no octave-cli")
     def test_octave(self) -> None:

@@ -35,6 +35,9 @@ class Several(unittest.TestCase):
             ("py {skip_if \"^no: \" whole}", {"skip_if": "^no: ", "is_whole": True}),
             ("py {skip 'a' or 'b'}", {"skip": "a' or 'b"}),
             ("py {skip don't timeout 1}", {"skip": "don't timeout 1"}),
+            ("py {name a sum, setup}", {"name": "a sum, setup"}),
+            ("py {whole name ' a sum ' setup}", {"is_whole": True, "name": "a sum", "is_setup": True}),
+            ("{.py name='a sum' .setup}", {"name": "a sum", "is_setup": True}),
         ]
         for info, wanted in given:
             with self.subTest(info):
@@ -58,12 +61,13 @@ class Refused(unittest.TestCase):
         self.assertEqual(str(raised.exception), "line 4: " + why)
 
     def test_in_braces(self) -> None:
-        none = "is none of the words that a case can have: setup, teardown, whole, independent, pure, xfail, may_fail, skip, skip_if, timeout, tags, flaky, spaces, tolerance, normal"
+        none = "is none of the words that a case can have: setup, teardown, whole, independent, pure, xfail, may_fail, skip, skip_if, timeout, tags, name, flaky, spaces, tolerance, normal"
         for info, why in (
             ("py {setup nonsense}", f"'nonsense' {none}"), ("py {teardown 1}", f"'1' {none}"), ("py {whole, setpu}", "'setpu' is none of the words that a case can have: is setup meant?"),
             ("py {independent xfial why}", "'xfial' is none of the words that a case can have: is xfail meant?"), ("py {hide now}", f"'now' {none}"),
             ("py {timeout 1 nonsense}", "'1 nonsense' is nothing that timeout can have"), ("py {spaces any thing}", "'any thing' is nothing that spaces can have"),
             ("py {timeout 1 literal}", "'1 literal' is nothing that timeout can have"), ("{.py .setup=no}", "'no' is nothing that setup can have"), ("{.py skip='}", "the quotes in \"{.py skip='}\" aren't closed"),
+            ("py {name}", "'' is nothing that name can have"), ("py {name ' '}", "\"' '\" is nothing that name can have"), ("py {name a} {name b}", "name stands there twice"),
             ("py {timeout 1} {timeout 2}", "timeout stands there twice"), ("py {tags a} {tags b}", "tags stands there twice"),
             ("py {setup", "'{setup': a pair of braces isn't closed, or has others in it"), ("py {skip a {setup} b}", "'{skip': a pair of braces isn't closed, or has others in it"),
         ):
@@ -94,6 +98,11 @@ class Refused(unittest.TestCase):
             self.refused(info, why + literal)
         for info in ("py{literal}", "{#one .json}", "{#one .py .literal}", "json{1,3}"):
             self.assertEqual(Text("suite.md", f"{FRONT}```{info}\nx\n```\n").cases, [])
+
+    def test_a_name_of_two_cases(self) -> None:
+        with self.assertRaises(Trouble) as raised:
+            Text("suite.md", f"{FRONT}```py {{name a}}\nx\n```\n```py {{name b}}\nx\n```\n```py {{name 'a'}}\ny\n```\n")
+        self.assertEqual(str(raised.exception), "line 10: the case in line 4 has the name 'a', too")
 
     def test_at_what_is_wanted(self) -> None:
         for kind, words in (("answer", "{spaces any}"), ("answer", "skip"), ("error", "{xfail why}")):

@@ -10,7 +10,8 @@ from tmhost_fences.fields import Group, language_in
 
 from .rules import Normal, Rules
 
-AROUND = re.compile(r"tmhost_skips \|\| \{|\{")  # what stands before the code of a command of cram, where --convert wrote it
+# What stands before the code of a command of cram, and of a block of Octave's tests, where --convert wrote it.
+AROUND = re.compile(r'tmhost_skips \|\| \{|\{|lastwarn \(""\); lasterr \(""\); try|function (?:\[.*\] = )?tmhost_test \(.*\)')
 
 
 @dataclasses.dataclass(frozen=True)
@@ -27,6 +28,7 @@ class Marks:
     skip_if: Optional[str] = None  # a pattern: where what comes has it, the case is skipped
     timeout: Optional[float] = None
     tags: FrozenSet[str] = frozenset()
+    name: Optional[str] = None  # in place of its first line
     flaky: int = 0
     any_spaces: bool = False
     tolerance: Optional[Tuple[Decimal, Decimal]] = None  # relative and absolute, in place of those of the suite
@@ -37,7 +39,7 @@ class Marks:
 class Case:
     """`line` is that of its fence, from 1. `wanted` and `errors` are None where the text has no answer after it, and no errors apart. `before`
     is the prose in front of it, of a suite of another form; `is_own` says that it stands in no such suite, but does what the program of that form does
-    around it: it is no case that is counted."""
+    around it: it is no case that is counted. `own_line` is its first line in such a suite, where its code here has others around it."""
 
     session: str
     marks: Marks
@@ -48,12 +50,15 @@ class Case:
     errors: Optional[str] = None
     before: str = ""
     is_own: bool = False
+    own_line: str = ""
 
     @property
     def title(self) -> str:
-        """Its first line that has anything, in at most 60 characters; of a converted command of cram not what was put around it."""
+        """Its name, or its first line that has anything, in at most 60 characters; of a converted test of cram or Octave not what was put around it."""
+        if self.marks.name is not None:
+            return self.marks.name
         lines = [line.strip() for line in self.lines if line.strip()]
-        first = next((line for line in lines if not AROUND.fullmatch(line)), "".join(lines[:1]))
+        first = self.own_line or next((line for line in lines if not AROUND.fullmatch(line)), "".join(lines[:1]))
         return first if len(first) <= 60 else first[:57] + "..."
 
     @property

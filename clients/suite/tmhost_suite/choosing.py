@@ -56,7 +56,7 @@ def why_none(given: argparse.Namespace, suites: Sequence[Suite]) -> str:
         part = f"*{given.only}*"
         count = sum(fnmatch.fnmatchcase(case.title, part) for _, case in cases)
         meant = f", and {shlex.quote(part)} chooses {count}" if count else ""
-        return "\n".join([f"{none}: none has the line or the first line {given.only}{meant}; there are", *listed(names, given.only)])
+        return "\n".join([f"{none}: none has the line, the name or the first line {given.only}{meant}; there are", *listed(names, given.only)])
     tags = sorted({tag for case in named for tag in case.marks.tags})
     return f"{none}: --tags {given.tags}; {'their tags are ' + ', '.join(tags) if tags else 'they have no tags'}" if named and given.tags else none
 

@@ -104,6 +104,13 @@ def unquoted(word: str) -> str:
     return word[1:-1] if len(word) > 1 and word[0] == word[-1] and word[0] in "\"'" else word
 
 
+def name(word: str) -> str:
+    found = unquoted(word).strip()
+    if not found:
+        raise ValueError
+    return found
+
+
 def pattern(word: str) -> str:
     found = unquoted(word)
     try:
@@ -153,6 +160,7 @@ READERS: Dict[str, Reader] = {
     "skip_if": Reader("skip_if", reason, pattern),
     "timeout": Reader("timeout", up_to_a_word, seconds),
     "tags": Reader("tags", all_of_it, lambda rest: frozenset(re.split(r"[\s,]+", rest)) - {""}),
+    "name": Reader("name", reason, name),
     "flaky": Reader("flaky", up_to_a_word, tries),
     "spaces": Reader("any_spaces", up_to_a_word, any_spaces),
     "tolerance": Reader("tolerance", up_to_a_word, tolerance),

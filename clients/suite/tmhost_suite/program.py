@@ -14,8 +14,10 @@ from typing import Dict, Iterator, List, NamedTuple, Optional, Tuple
 from tmhost import Died, TmhostError, Worksheet
 from tmhost.program import show_building
 from tmhost.version import ShowVersion
+from tmhost_fences.output import Parser, run_and_flush
 from tmhost_fences.targets import refuse_target
 from tmhost_fences.troubles import Trouble
+from tmhost_weave.files import put
 
 from . import kept as worksheets
 from . import reports
@@ -25,7 +27,7 @@ from .choosing import chooser, refuse_bare_sessions, why_none
 from .marks import seconds
 from .reports import FORMATS, Reported, SuiteTrouble, reported_of
 from .running import Plan, run
-from .telling import ShowHelp, Teller, cut, give_up_output, standard
+from .telling import Teller, cut, standard
 from .readers import as_text, read_other
 from .results import PASSED
 from .text import Text, looks_like_a_suite, names_sessions
@@ -63,13 +65,13 @@ def positive(word: str) -> int:
 
 
 def arguments(words: List[str]) -> argparse.Namespace:
-    parser = argparse.ArgumentParser("tmhost-suite", None, ABOUT, NOTES, formatter_class=argparse.RawDescriptionHelpFormatter, add_help=False)
-    parser.add_argument("-h", "--help", action=ShowHelp)
+    parser = Parser("tmhost-suite", None, ABOUT, NOTES, formatter_class=argparse.RawDescriptionHelpFormatter, add_help=False)
+    parser.add_argument("-h", "--help", action="help", help="show this help")
     parser.add_argument("suites", nargs="+", metavar="SUITE")
     parser.add_argument("--version", action=ShowVersion)
     parser.add_argument("--accept", action="store_true", help="put what came into the text where it isn't what is wanted")
     parser.add_argument("--interactive", action="store_true", help="with --accept: ask for each case")
-    parser.add_argument("--only", metavar="PATTERN", help="run the cases whose line number or whole first line is this, with * and ? as in names of files ('*text*': a part of it)")
+    parser.add_argument("--only", metavar="PATTERN", help="run the cases whose line number, name or whole first line is this, with * and ? as in names of files ('*text*': a part of it)")
     parser.add_argument("--tags", metavar="TAGS", help="run the cases that have one of these tags, with commas between them")
     parser.add_argument("--shard", type=shard, default=(1, 1), metavar="I/N", help="run the I-th of N parts of the suites")
     parser.add_argument("--rerun", choices=["failed"], help="run the cases that weren't as wanted in the last run")
@@ -191,14 +193,17 @@ class Runner:
         began = time.monotonic()
         reported = self._run_all(suites)
         self._tell(reported, time.monotonic() - began)
-        self._write_reports(reported)
-        self._finish()
+        unwritten = self._write_reports(reported)
+        if not unwritten:
+            self._finish()
         for trouble in self.troubles:
             for line in trouble.why.split("\n"):
                 print(f"tmhost-suite: {trouble.path}: {cut(line)}", file=sys.stderr)
+        for why in unwritten:
+            print(f"tmhost-suite: {why}", file=sys.stderr)
         if not self.chosen and parts == 1 and (self.given.only or self.given.tags):
             raise Trouble(why_none(self.given, [suite for suite, _ in suites]))
-        return not self.troubles and all(one.verdict in PASSED or one.verdict == "out" for one in reported)
+        return not unwritten and not self.troubles and all(one.verdict in PASSED or one.verdict == "out" for one in reported)
 
     def _run_all(self, suites: List[Read]) -> List[Reported]:
         """Runs suites side by side. What came of them is accepted in this thread alone, one suite after another. Where that is asked, it is when all have run:
@@ -344,7 +349,9 @@ class Runner:
         for line in self.accepted:
             self.teller.say(line)
 
-    def _write_reports(self, reported: List[Reported]) -> None:
+    def _write_reports(self, reported: List[Reported]) -> List[str]:
+        """Says which files of reports couldn't be written, and why."""
+        unwritten: List[str] = []
         for name, write in FORMATS.items():
             path: Optional[str] = getattr(self.given, name)
             if path is None and name != self.given.format:
@@ -353,8 +360,21 @@ class Runner:
             if path == "-" or name == self.given.format:
                 sys.stdout.write(text)
             if path is not None and path != "-":
-                with open(path, "w", encoding="utf-8", newline="") as file:
-                    file.write(text)
+                try:
+                    write_report(path, text.encode("utf-8"))
+                except OSError as error:
+                    unwritten.append(f"--{name}: {path} isn't written: {error.strerror or error}; --resume writes it, by what is kept")
+        return unwritten
+
+
+def write_report(path: str, data: bytes) -> None:
+    """A file is replaced as a whole, or stays as it was. What is none, as a pipe, is written to."""
+    real = os.path.realpath(path)
+    if os.path.exists(path) and not os.path.isfile(real):
+        with open(path, "wb") as file:
+            file.write(data)
+    else:
+        put(real, data)
 
 
 def ran(words: List[str]) -> int:
@@ -370,17 +390,9 @@ def ran(words: List[str]) -> int:
 
 def main(words: List[str]) -> int:
     try:
-        try:
-            return ran(words)
-        finally:
-            sys.stdout.flush()
+        return run_and_flush("tmhost-suite", ran, words)
     except (Trouble, TmhostError) as trouble:
         print(f"tmhost-suite: {trouble}", file=sys.stderr)
-    except BrokenPipeError:
-        give_up_output()  # who reads it has seen enough
-    except OSError as error:
-        print(f"tmhost-suite: {error.strerror or error}" + (f": {error.filename}" if error.filename else ""), file=sys.stderr)
-        give_up_output()
     except KeyboardInterrupt:
         print("tmhost-suite: cut off; --resume goes on where it was", file=sys.stderr)
         return INTERRUPTED

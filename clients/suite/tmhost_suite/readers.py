@@ -1,5 +1,5 @@
-"""Suites in the forms of others: doctest's `>>>`, cram's `.t`, a Jupyter notebook with its outputs, PARI's `in` and `32`; those of GAP and of
-Octave are in transcripts.py. Each is read as cases of one session."""
+"""Suites in the forms of others: doctest's `>>>`, cram's `.t`, a Jupyter notebook with its outputs; those of PARI, GAP and Octave are in
+transcripts.py. Each is read as cases of one session."""
 import ast
 import dataclasses
 import doctest
@@ -12,7 +12,7 @@ import textwrap
 from typing import Any, Callable, Dict, Iterator, List, Optional, Tuple
 
 from tmhost import readable
-from tmhost_fences.blocks import LINE, blocks_of, cut
+from tmhost_fences.blocks import blocks_of
 from tmhost_fences.fields import LINE_END, Group, groups, language_in, whole
 from tmhost_fences.info import LITERAL
 from tmhost_fences.troubles import Missing, Trouble
@@ -21,7 +21,7 @@ from .cases import Case, Marks, Suite
 from .forms import FOLDER, GAP, GP, OCTAVE, PYTHON, SHELL, Session, lines_of, own_case, session_of, whole_case
 from .rules import ANY_LINES, BY_GLOB, BY_PATTERN, PICTURES, Rules, exactly
 from .text import Text, misspellings
-from .transcripts import is_gap, is_octave, read_gap, read_octave
+from .transcripts import is_gap, is_octave, pari_wanted, read_gap, read_octave, read_pari
 
 CRAM_CODE, CRAM_MORE = re.compile(r"  \$ (.*)"), re.compile(r"  > (.*)")
 NO_END, ESCAPED = " (no-eol)", " (esc)"
@@ -33,7 +33,6 @@ IPYTHONS = re.compile(r"[ \t]*(%%?[a-zA-Z]|![^=])")  # the beginning of a line t
 NBVAL = re.compile(r"^[ \t]*# ?(NBVAL_\w+|PYTEST_VALIDATE_IGNORE_OUTPUT)", re.MULTILINE)
 SKIPPING, FREEING = ("nbval-skip", "skip-execution"), ("nbval-ignore-output", "pytest-validate-ignore-output")
 PLAIN_TAG = re.compile(r"[\w.:-]+")
-PARI_TIME = ("Total time spent:", '? print("Total time spent: "')
 CRAM_OUTPUT, CRAM_SKIPS = '"$CRAMTMP"/tmhost-output', "skipped: exit 80"
 
 
@@ -226,7 +225,7 @@ def lines_of_ipython(path: str, cases: List[Case]) -> Tuple[str, ...]:
 
 def notebook_case(session: str, cell: Dict[str, Any], language: str, number: int, before: str) -> Optional[Case]:
     """The case of a cell of code. None where it has none. Its tags, and those that nbval reads in remarks, say whether it is skipped, and
-    whether its outputs may be others."""
+    whether its outputs may be others. Of one that was never run nothing is known of what is wanted."""
     source = text_in(cell.get("source"))
     fields = tuple(whole(cell_lines(source, language)))
     if not fields:
@@ -234,10 +233,12 @@ def notebook_case(session: str, cell: Dict[str, Any], language: str, number: int
     tags = {str(tag) for tag in cell.get("metadata", {}).get("tags", [])} | {word.lower().replace("_", "-") for word in NBVAL.findall(source)}
     skip = next((f"by its tag {tag}" for tag in SKIPPING if tag in tags), None)
     marks = Marks(skip=skip, tags=frozenset(tag for tag in tags if PLAIN_TAG.fullmatch(tag)))
-    outputs = (output_of(it, language) for it in cell.get("outputs", []))
+    outputs = cell.get("outputs", [])
     is_free = not tags.isdisjoint(FREEING)
-    wanted = ANY_LINES if is_free else "\n".join(part for part in outputs if part)
-    may_err = any(it.get("output_type") == "error" for it in cell.get("outputs", []))
+    was_run = outputs or cell.get("execution_count") is not None
+    texts = (output_of(it, language) for it in outputs)
+    wanted = ANY_LINES if is_free else "\n".join(part for part in texts if part) if was_run else None
+    may_err = any(it.get("output_type") == "error" for it in outputs)
     return Case(session, marks, tuple(source.split("\n")), fields, number, wanted, "" if is_free and not may_err else None, before)
 
 
@@ -254,30 +255,6 @@ def notebook_cases(session: str, cells: List[Dict[str, Any]], language: str) -> 
         elif kind == "markdown":
             prose.append(text_in(cell.get("source")).strip("\n"))
     return cases, "\n\n".join(prose)
-
-
-# ---- PARI
-
-
-def pari_wanted(path: str) -> Optional[str]:
-    """The file of what PARI's own tests want of a file `in/NAME`: `64/NAME`, or else `32/NAME`, in the folder of `in`."""
-    folder, name = os.path.split(os.path.abspath(path))
-    if os.path.basename(folder) != "in":
-        return None
-    beside = (os.path.join(os.path.dirname(folder), bits, name) for bits in ("64", "32"))
-    return next((one for one in beside if os.path.isfile(one)), None)
-
-
-def read_pari(path: str, text: str, session: Session) -> Suite:
-    """One case, since what is wanted says not which lines are whose. `gp --test` wrote that, in lines of 76 characters; PARI's `dotest` lets
-    it tell the time it took, and leaves that out."""
-    with open(pari_wanted(path) or "", encoding="utf-8", errors="surrogateescape", newline="\n") as file:
-        wanted = file.read().rstrip("\n").split("\n")
-    while wanted and wanted[-1].startswith(PARI_TIME):
-        del wanted[-1]
-    lines = [cut(line)[0] for line in LINE.findall(text)]
-    case = Case(session.name, Marks(), tuple(lines), tuple(groups(lines, "gp")), 1, "\n".join(wanted))
-    return Suite(path, dict([session]), Rules(any_spaces=True, columns=76), None, (case,))
 
 
 Reader = Callable[[str, str, Session], Suite]

@@ -245,11 +245,12 @@ def junit(all_reported: List[Reported], troubles: List[SuiteTrouble]) -> Iterato
 
 
 def lasting_names(own: List[Reported]) -> Iterator[str]:
-    """A name for each case of a text, which stays where the text above it changes: its title, and which one it is of several with that."""
-    count: Dict[str, int] = {}
-    for title in (reported.case.title for reported in own):
-        count[title] = count.get(title, 0) + 1
-        yield title if count[title] == 1 else f"{title} ({count[title]})"
+    """A name for each case of a text: its own one, which stays whatever the text has above it, or its first line, and which one it is of several with that."""
+    count = {reported.case.marks.name: 1 for reported in own if reported.case.marks.name is not None}
+    for case in (reported.case for reported in own):
+        if case.marks.name is None:
+            count[case.title] = count.get(case.title, 0) + 1
+        yield case.title if case.marks.name is not None or count[case.title] == 1 else f"{case.title} ({count[case.title]})"
 
 
 def junit_suite(path: str, own: List[Reported], troubles: List[str]) -> Iterator[str]:
@@ -283,6 +284,7 @@ def json_lines(all_reported: List[Reported], troubles: List[SuiteTrouble]) -> It
         one = {
             "file": reported.suite.path,
             "line": reported.case.line,
+            "name": reported.case.title,
             "session": reported.case.session,
             "code": list(reported.case.lines),
             "tags": sorted(reported.case.marks.tags),

@@ -1,9 +1,7 @@
 """What came of a run, for people: differences, counts, the slowest cases, and on a terminal how far it is."""
-import argparse
-import os
 import sys
 import threading
-from typing import Any, Dict, List, NoReturn, Optional, Set, TextIO, Tuple
+from typing import Dict, List, Set, TextIO, Tuple
 
 from tmhost.starting import doubt, why_it_ends
 
@@ -146,25 +144,3 @@ def applied_in(all_reported: List[Reported]) -> Set[int]:
 def standard(has_output: bool = True) -> Teller:
     """One of the program's own streams. It has standard output, or a report has."""
     return Teller(sys.stdout if has_output else sys.stderr, sys.stderr)
-
-
-# ---- standard output that takes nothing, as that of a full disk
-
-
-class ShowHelp(argparse.Action):
-    """That of argparse is silent where its text can't be written, in Python 3.12 and later."""
-
-    def __init__(self, option_strings: Any, dest: str) -> None:
-        super().__init__(option_strings, argparse.SUPPRESS, nargs=0, default=argparse.SUPPRESS, help="show this help")
-
-    def __call__(self, parser: argparse.ArgumentParser, namespace: argparse.Namespace, values: Any, option_string: Optional[str] = None) -> NoReturn:
-        sys.stdout.write(parser.format_help())
-        parser.exit()
-
-
-def give_up_output() -> None:
-    """After a failure nothing more goes to standard output where it takes nothing: Python would try that again at its end, and say so in its own words."""
-    try:
-        sys.stdout.flush()
-    except OSError:
-        os.dup2(os.open(os.devnull, os.O_WRONLY), sys.stdout.fileno())

@@ -251,6 +251,9 @@ class Text:
     def _add(self, session: str, block: Block, found: Dict[str, Block]) -> None:
         line = block.begin + 1
         marks = read_marks(block.info_text, line)
+        same = next((case.line for case in self.cases if marks.name is not None and case.marks.name == marks.name), None)
+        if same is not None:
+            raise Trouble(f"line {line}: the case in line {same} has the name {ascii(marks.name)}, too")
         for kind, one in found.items():
             refuse_marks(one.info_text, one.begin + 1, kind)
         for one in (block, *found.values()):

@@ -1,12 +1,17 @@
-"""Test files of GAP and of Octave, as they are: `gap> ` in GAP's `.tst`, and blocks `%!` in Octave's `.tst` and `.m`."""
+"""Test files of PARI, GAP and Octave, as they are: PARI's `in` and `32`, `gap> ` in GAP's `.tst`, and blocks `%!` in Octave's `.tst` and `.m`."""
 import dataclasses
 import os
 import re
 from typing import Iterator, List, Optional, Tuple
 
+from tmhost_fences.blocks import LINE, cut
+from tmhost_fences.fields import groups
+
 from .cases import Case, Marks, Suite
 from .forms import FOLDER, Session, lines_of, own_case, whole_case
 from .rules import ANY_LINES, BY_PATTERN, Rules
+
+PARI_TIME = ("Total time spent:", '? print("Total time spent: "')
 
 GAP_PROMPT, GAP_MORE, GAP_CHOICE, GAP_END = "gap> ", "> ", "#@if", "#@fi"
 GAP_PACKAGE = re.compile(r"/pkg/([\w-]+)/")
@@ -22,6 +27,30 @@ PASSED, SKIPPED = "passed", "skipped: it wants"
 
 def remarks(count: int) -> Tuple[str, ...]:
     return (lines_of(count, "remarks"),) if count else ()
+
+
+# ---- PARI
+
+
+def pari_wanted(path: str) -> Optional[str]:
+    """The file of what PARI's own tests want of a file `in/NAME`: `64/NAME`, or else `32/NAME`, in the folder of `in`."""
+    folder, name = os.path.split(os.path.abspath(path))
+    if os.path.basename(folder) != "in":
+        return None
+    beside = (os.path.join(os.path.dirname(folder), bits, name) for bits in ("64", "32"))
+    return next((one for one in beside if os.path.isfile(one)), None)
+
+
+def read_pari(path: str, text: str, session: Session) -> Suite:
+    """One case, since what is wanted says not which lines are whose. `gp --test` wrote that, in lines of 76 characters; PARI's `dotest` lets
+    it tell the time it took, and leaves that out."""
+    with open(pari_wanted(path) or "", encoding="utf-8", errors="surrogateescape", newline="\n") as file:
+        wanted = file.read().rstrip("\n").split("\n")
+    while wanted and wanted[-1].startswith(PARI_TIME):
+        del wanted[-1]
+    lines = [cut(line)[0] for line in LINE.findall(text)]
+    case = Case(session.name, Marks(), tuple(lines), tuple(groups(lines, "gp")), 1, "\n".join(wanted))
+    return Suite(path, dict([session]), Rules(any_spaces=True, columns=76), None, (case,))
 
 
 # ---- GAP
@@ -112,7 +141,7 @@ def message(code: str, shared: str, kind: str) -> Tuple[str, str]:
     assert found
     code = called(code[found.end() :], shared)
     if found[1] is not None:
-        return f'lastwarn (""); lasterr ("");\ntry\n{code}\nend_try_catch\n[~, tmhost_id] = last{kind[:4].replace("erro", "err")} ();\ndisp (tmhost_id)', f"{ANY_LINES}\n{found[1]}"
+        return f'lastwarn (""); lasterr (""); try\n{code}\nend_try_catch\n[~, tmhost_id] = last{kind[:4].replace("erro", "err")} ();\ndisp (tmhost_id)', f"{ANY_LINES}\n{found[1]}"
     pattern = found[2] or ""
     inner = f"(?:{pattern[1:]})" if pattern.startswith("^") else f".*(?:{pattern})"
     # Of what can't be parsed that is reported on a line of its own.
@@ -150,6 +179,18 @@ def octave_case(session: str, kind: str, code: str, shared: str, line: int) -> O
     return None
 
 
+def first_line(kind: str, code: str) -> str:
+    """Of a block as its file has it. Of one that begins with its kind alone, as `test` does, it is that of its code."""
+    first, *more = [line.strip() for line in code.split("\n")]
+    bug = OCTAVE_BUG.match(first)
+    if kind in ("test", "xtest", "testif"):
+        first = "" if kind == "testif" else first[bug.end() :].strip() if bug else first
+        return next(filter(None, [first, *more]), kind)
+    if not first:
+        return " ".join([kind, *list(filter(None, more))[:1]])
+    return kind + code.partition("\n")[0].rstrip()
+
+
 def octave_blocks(text: str) -> Iterator[Tuple[str, str, int]]:
     """The kind of each block, its code, and its line, from 1."""
     for found in OCTAVE_BLOCK.finditer(text):
@@ -169,5 +210,5 @@ def read_octave(path: str, text: str, session: Session) -> Suite:
         else:
             found = octave_case(session.name, kind, code, shared, line)
         if found:
-            cases.append(found)
+            cases.append(dataclasses.replace(found, own_line=first_line(kind, code)))
     return Suite(path, dict([session]), Rules(), None, tuple(cases), left_out=remarks(len(OCTAVE_REMARK.findall(text))))

@@ -78,6 +78,21 @@ class Documents(unittest.TestCase):
         self.assertIn("    <|input>\n      not asked\n    </input>\n", reported)
         self.assertEqual(reported.count("<\\session|tmhost|a>"), 1)
 
+    @unittest.skipUnless(os.path.exists("/dev/full"), "there is no /dev/full")
+    def test_what_cannot_be_written(self) -> None:
+        """On a full disk a line says why. Of a pipe whose reader has gone nothing is said: that has seen enough."""
+        with Worksheet(self.sheet, create=True, program=PROGRAM) as sheet:
+            sheet.session("a", INTERPRETER)
+            sheet.new("a", "x")
+        reader, writer = os.pipe()
+        os.close(reader)
+        with open("/dev/full", "wb") as full, os.fdopen(writer, "wb") as gone:
+            for output, said in ((full, "tmhost-texmacs: No space left on device\n"), (gone, "")):
+                for words in (["--help"], ["--list"], ["--export", self.sheet]):
+                    with self.subTest(words, said=said):
+                        done = subprocess.run([sys.executable, "-B", COMMAND, *words], stdout=output, stderr=subprocess.PIPE, text=True, env={**os.environ, "TMHOST": PROGRAM})
+                        self.assertEqual((done.returncode, done.stderr), (1, said))
+
 
 class Formulas(unittest.TestCase):
     def test_trees(self) -> None:

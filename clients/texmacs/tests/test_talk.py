@@ -1,7 +1,8 @@
 """A talk that was recorded between GNU TeXmacs 2.1.4 and tmhost-texmacs, byte for byte: `talk.txt`.
 
 `=` are the session, worksheet and document, `>` the bytes that TeXmacs wrote, `<` those that it read, `!` its signal. PROCESS stands for the number of the
-program's process. Python's tracebacks show the place of an error since 3.13 only, so the lines of marks in an error aren't compared.
+program's process. Python's tracebacks show the place of an error since 3.13 only, so the lines of marks in an error aren't compared. Where a traceback names the input, the record has the
+name that the adapter gives today, `<input>`.
 """
 import ast
 import os

@@ -15,6 +15,7 @@ from typing import List, Optional, Tuple
 
 from tmhost import TmhostError, Worksheet
 from tmhost.advice import advised
+from tmhost_fences.output import Parser, run_and_flush
 
 from . import keeper, scheme
 from .document import document
@@ -218,8 +219,7 @@ class Bridge:
 
 
 def words_given(words: List[str]) -> argparse.Namespace:
-    parser = argparse.ArgumentParser(prog="tmhost-texmacs", description="A session of a worksheet for GNU TeXmacs, which starts it by itself: put the folder "
-                                     "`plugins/tmhost` into ~/.TeXmacs/plugins.")
+    parser = Parser(prog="tmhost-texmacs", description="A session of a worksheet for GNU TeXmacs, which starts it by itself: put the folder `plugins/tmhost` into ~/.TeXmacs/plugins.")
     parser.add_argument("--list", action="store_true", help="print the names of the sessions that are offered, as a list of Scheme")
     parser.add_argument("--sessions", metavar="SHEET", help="print the names of the sessions of a worksheet so; #f where it can't be opened")
     parser.add_argument("--export", metavar="SHEET", help="write a worksheet as a document of TeXmacs to standard output")
@@ -251,7 +251,7 @@ def export(sheet: str) -> int:
     return 0
 
 
-def main(words: List[str]) -> int:
+def ran(words: List[str]) -> int:
     given = words_given(words)
     if given.list:
         print(scheme.written(list(adapters())))
@@ -270,3 +270,7 @@ def main(words: List[str]) -> int:
     except (BrokenPipeError, KeyboardInterrupt):
         os.dup2(os.open(os.devnull, os.O_WRONLY), 1)
     return 0
+
+
+def main(words: List[str]) -> int:
+    return run_and_flush("tmhost-texmacs", ran, words)

@@ -23,8 +23,11 @@ const LONGEST_FIELD = 50_000; // bytes of one that is prose: each of an input's 
 const FIELD = new RegExp('^<section id="(field-[0-9]+)">\n<header><a href="#\\1">#[0-9]+</a> <bdi>([^<]*)</bdi></header>\n'
   + '<pre class="in" dir="ltr"><bdi>[^<]*</bdi><code dir="ltr">([^<]*)</code></pre>\n<p class="none">no answer[^<]*</p>\n</section>\n$');
 
-const REFERENCES = new Map([["&amp;", "&"], ["&lt;", "<"], ["&gt;", ">"], ["&quot;", '"'], ["&#39;", "'"]]);
-const ESCAPES = new Map([...REFERENCES].map(([reference, character]) => [character, reference]));
+const ESCAPES = new Map([["&", "&amp;"], ["<", "&lt;"], [">", "&gt;"], ['"', "&quot;"], ["'", "&#39;"]]); // as an export has them
+// What is read: the references that programs write which escape a text. Python has `&#x27;`, others `&#039;`, `&apos;` or `&#34;`.
+const NAMED = new Map([["&amp;", "&"], ["&lt;", "<"], ["&gt;", ">"], ["&quot;", '"'], ["&apos;", "'"]]);
+const NUMBERED = /^&#(?:([0-9]+)|[xX]([0-9a-fA-F]+));$/;
+const REFERENCE = /&[^&;]*;?/g;
 
 // Fonts that have a table for mathematics, of those that are installed; and what MathML Core leaves to styles. The page breaks long words of
 // its outputs, and a number in a cell of a table that was broken so would lose its last digits.
@@ -68,8 +71,8 @@ const PROSE_STYLE = `<style>
 `;
 
 /**
- * A field of prose: its bytes are `start` up to `end` of the page, without what has its number.
- * @typedef {{start: number, end: number, session: string, text: string | null}} Prose
+ * A field of prose: its bytes are `start` up to `end` of the page, without what has its number. Of `source`, which stands there, `text` is what it says.
+ * @typedef {{start: number, end: number, session: string, text: string | null, source: string}} Prose
  */
 
 /**
@@ -159,7 +162,19 @@ function spansOf(page) {
 }
 
 /**
- * The text that stands in bytes of a page; null where they are none of an export.
+ * The character that a reference stands for; null where none does, or where browsers read another one.
+ * @type {(reference: string) => string | null}
+ */
+function characterOf(reference) {
+  const found = NUMBERED.exec(reference);
+  if (!found) return NAMED.get(reference) ?? null;
+  const code = found[1] ? parseInt(found[1], 10) : parseInt(found[2], 16);
+  const isOther = code === 0 || (code >= 0x80 && code <= 0x9f) || (code >= 0xd800 && code <= 0xdfff) || code > 0x10ffff;
+  return isOther ? null : String.fromCodePoint(code);
+}
+
+/**
+ * The text that stands in bytes of a page; null where they are no text that was escaped.
  * @type {(bytes: Buffer) => string | null}
  */
 function textOf(bytes) {
@@ -169,8 +184,8 @@ function textOf(bytes) {
   } catch {
     return null;
   }
-  if (/&(?!amp;|lt;|gt;|quot;|#39;)|[<>"']/.test(escaped)) return null;
-  return escaped.replace(/&[^;]*;/g, (reference) => REFERENCES.get(reference) ?? reference);
+  if (/[<>"']/.test(escaped) || (escaped.match(REFERENCE) ?? []).some((reference) => characterOf(reference) === null)) return null;
+  return escaped.replace(REFERENCE, (reference) => characterOf(reference) ?? reference);
 }
 
 /**
@@ -191,7 +206,8 @@ function proseAt(page, start, isProse) {
   const found = FIELD.exec(page.toString("latin1", start, end));
   if (!found) return null;
   const [session, text] = found.slice(2).map((part) => textOf(Buffer.from(part, "latin1")));
-  return session !== null && isProse(session) ? { start: start + FIELD_START.length + found[1].length - "field-".length, end, session, text } : null;
+  if (session === null || !isProse(session)) return null;
+  return { start: start + FIELD_START.length + found[1].length - "field-".length, end, session, text, source: Buffer.from(found[3], "latin1").toString() };
 }
 
 /**

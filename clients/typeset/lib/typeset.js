@@ -24,6 +24,7 @@ const { Refused } = require("./refused.js");
 const LONGEST_FACTOR = 200; // characters of MathML for each of TeX, so that a page grows by no more; of HTML for each of prose
 const LONGEST_REST = 2_000;
 const LONGEST_PIECE = 20_000; // characters of a formula, or of a piece of one
+const NO_TEXT = "no text of an export"; // said of what stands there, which is shown as it is
 
 /** @type {(text: string) => number} */
 function longestFor(text) {
@@ -80,7 +81,7 @@ function orReason(task) {
 function formulasIn(page) {
   return spansOf(page).map(({ start, end, alone }) => {
     const text = textOf(page.subarray(start, end));
-    if (text === null) return { start, end, kind: "formula", text: "", parts: [], reason: "no text of an export" };
+    if (text === null) return { start, end, kind: "formula", text: page.toString("utf8", start, end), parts: [], reason: NO_TEXT };
     const reported = orReason(() => ({ parts: partsOf(text).flatMap((part) => asked(part, alone)) }));
     return { start, end, kind: "formula", text, parts: [], ...reported };
   });
@@ -114,8 +115,8 @@ function partsOfProse(read, text, left) {
 async function proseIn(page, { markdown, isProse }, deadline, left) {
   const all = proseOf(page, isProse).map((one) => ({ ...one, text: one.text ?? "", isText: one.text !== null }));
   const answers = await answersTo(markdownOf(markdown), all.map(({ text }) => ({ text, longest: longestFor(text) })), deadline);
-  return all.map(({ start, end, text, isText }, index) => {
-    if (!isText) return { start, end, kind: "prose", text, parts: [], reason: "no text of an export" };
+  return all.map(({ start, end, text, source, isText }, index) => {
+    if (!isText) return { start, end, kind: "prose", text: source, parts: [], reason: NO_TEXT };
     return { start, end, kind: "prose", text, parts: [], ...orReason(() => ({ parts: partsOfProse(answers[index], text, left) })) };
   });
 }

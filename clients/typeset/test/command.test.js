@@ -56,6 +56,25 @@ test("another title", () => {
   assert.equal(run(before, "--title", "a\nb").status, 2);
 });
 
+test("formulas as other programs escape them", () => {
+  /** @type {[string, string[]][]} */
+  const forms = [
+    ["&", ["&amp;", "&#38;", "&#x26;"]], ["<", ["&lt;", "&#60;", "&#x3C;"]], [">", ["&gt;", "&#62;", "&#x3e;"]],
+    ['"', ["&quot;", "&#34;", "&#x22;"]], ["'", ["&#39;", "&#x27;", "&#039;", "&#X27;", "&apos;"]], ["/", ["&#47;", "&#x2F;"]], ["=", ["&#61;", "&#x3D;"]],
+  ];
+  const written = forms.flatMap(([mark, references]) => references.map((reference) => [mark, reference].map((one) => `$f'x \\text{${mark === "&" ? "\\" : ""}${one}}$`)));
+  const before = pageOf("page", written.map(([, tex]) => ({ output: parts.tex_start + tex.replace("'", "&#x27;") + parts.tex_end })));
+  const wanted = pageOf("page", written.map(([tex]) => ({ output: span(tex) })));
+  const made = run(before, "--report");
+  assert.deepEqual([made.status, made.reported], [0, ""]);
+  assert.deepEqual(contentsOf(before, made.page), contentsOf(wanted, run(wanted).page));
+});
+
+test("a formula that is no text is named as the page has it", () => {
+  const { reported } = run(pageOf("page", [{ output: `${parts.tex_start}$a&nbsp;b$${parts.tex_end}` }]), "--report");
+  assert.equal(reported, 'left "$a&nbsp;b$": "no text of an export"\ntmhost-typeset: 1 of 1 formulas stay as their TeX\n');
+});
+
 test("formulas outside of outputs are none", () => {
   const before = pageOf("$x$", [{ session: "$x$", prompt: "$x$", input: '<span class="tex">$x$</span>', output: "$x$" }]);
   assert.equal(run(before).page.toString(), before);

@@ -93,7 +93,11 @@ test("letters of alphabets", () => {
 
 test("texts of a page", () => {
   assert.equal(textOf(Buffer.from("&lt;b&gt; &amp;amp; &quot;&#39;")), "<b> &amp; \"'");
-  for (const text of ["&nbsp;", "&", "&lt", "<", '"', "'", "&#60;"]) assert.equal(textOf(Buffer.from(text)), null, text);
+  assert.equal(textOf(Buffer.from("&apos;&#39;&#039;&#x27;&#X27;&#x00027;&#60;&#x1D538;&#233;&#10;")), `${"'".repeat(6)}<\u{1d538}\u00e9\n`);
+  for (const text of ["&nbsp;", "&", "&lt", "<", '"', "'", "&AMP;", "& ;", "&&amp;", "&#;", "&#x;", "&#x27", "&#2 7;", "&#-1;", "&#x2G;", "&amp;lt;&"]) {
+    assert.equal(textOf(Buffer.from(text)), null, text);
+  }
+  for (const other of ["0", "x0", "128", "x9f", "xd800", "57343", "x110000", "9".repeat(400)]) assert.equal(textOf(Buffer.from(`&#${other};`)), null, other);
   assert.equal(textOf(Buffer.from([0x24, 0xff, 0x24])), null);
 });
 

@@ -94,7 +94,7 @@ test("bytes that are no UTF-8, and a field of an older page", options, () => {
   const before = Buffer.from(pageOf("page", [prose("a\u00ffb"), prose("*c*")]), "latin1");
   const { page, reported } = run(before, "--report");
   assert.deepEqual([...proseOf(page).values()], ["<p><em>c</em></p>"]);
-  assert.equal(reported, 'left prose "": "no text of an export"\ntmhost-typeset: 1 of 2 fields of prose stay as they are\n');
+  assert.equal(reported, 'left prose "a\\u{fffd}b": "no text of an export"\ntmhost-typeset: 1 of 2 fields of prose stay as they are\n');
 });
 
 test("without markdown-it, and without time", options, () => {

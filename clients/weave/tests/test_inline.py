@@ -50,5 +50,5 @@ class InParagraphs(Case):
         with open(path, "wb") as file:
             file.write((self.front("py") + FENCE).encode() + b"[\xff](\xff.md) `r 1`\n")
         done = self.run_weave()
-        self.assertEqual((done.status, done.errors.count("\n"), os.path.exists(self.sheet)), (0, 2, True), done.errors)
+        self.assertEqual((done.status, done.errors.count("\n"), os.path.exists(self.sheet)), (1, 3, True), done.errors)
         self.assertIn("code within a paragraph isn't evaluated: r 1\n", done.errors)

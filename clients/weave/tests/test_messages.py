@@ -1,5 +1,6 @@
 """What standard error says: why an interpreter ended and where, what was evaluated, and what keeps a weave from its end."""
 import os
+import re
 import shutil
 import signal
 import stat
@@ -172,6 +173,18 @@ class Troubles(Messages):
                 self.assertEqual((done.status, done.output, done.errors), (1, "", said))
         self.assertEqual(os.listdir(self.folder), ["text.md"])
 
+    def test_what_is_said_of_too_long_code(self) -> None:
+        """What to do, in the text and on standard error. Of another misfit nothing can be said."""
+        for info, code, why in (
+            ("a", "x" * 4096, "refused: it has 4,096 bytes, and a field has at most 4,095: cut it into several, or load it from a file"),
+            ("a {whole}", "x\n" + "y" * 4096, "refused: it has 4,100 bytes (each end of a line counts three), and a field has at most 4,095: cut it into several, or load it from a file"),
+            ("a", "x\x01" + "y" * 4096, "refused: it has a control character"),
+        ):
+            self.write(self.front("a") + fences([(info, code)]))
+            done = self.run_weave()
+            self.assertEqual((done.status, done.errors.splitlines()[-1]), (1, f"{self.text}: line 8: a: {why}"))
+            self.assertIn(f"```tmhost-no-answer\n{why}\n```", self.read())
+
     def test_a_full_disk(self) -> None:
         """A limit of the length of files is a fault of the disk, too; whether there is no space says the file system."""
         self.write("x" * 15_000, self.place("long"))
@@ -197,7 +210,13 @@ class Troubles(Messages):
         self.write(text)
         self.assertEqual(self.run_weave(TMHOST=self.place("limited")).status, 1)
         self.assertEqual((sorted(os.listdir(self.folder)), self.read()), (["limited", "text.md"], text))
-        for code, words in (("say " + "z" * 3_000, ["--seconds=9"]), ("picture |image/svg+xml|" + long, ["--seconds=9"]), ("x", ["--html", self.place("pages/")])):
+        answers = "text.sheet keeps the answers"
+        for code, words, what, kept in (
+            ("say " + "z" * 3_000, ["--seconds=9"], self.text, f"what is there stays as it is, and {answers}"),
+            ("say " + "z" * 3_000, ["--output", self.place("out.md")], self.place("out.md"), f"what is there stays as it is, and {answers}"),
+            ("picture |image/svg+xml|" + long, ["--seconds=9"], self.place("text.pictures/"), f"the text stays as it is, and {answers}"),
+            ("x", ["--html", self.place("pages/")], self.place("pages/text.html"), "the text is woven, and a page that is there stays as it is"),
+        ):
             text = self.front("a") + fences([("a", code)])
             self.write(text)
             self.assertEqual(self.run_weave("--output", "-", self.text).status, 0)
@@ -205,7 +224,8 @@ class Troubles(Messages):
             limited = ["sh", "-c", 'ulimit -f 2; exec "$@"', "sh", *command_words(*words, self.text)]
             done = subprocess.run(limited, capture_output=True, text=True, env=environment())
             self.assertEqual(done.returncode, 1, done.stderr)
-            self.assertRegex(done.stderr, r"\A(.*: a: .*\n)?.*: File too large(: .*)?\n\Z")
+            named = re.escape(f"{self.text}: {what}") + r"([0-9a-f]{20}\.svg)?" + re.escape(f" can't be written (File too large): {kept}\n")
+            self.assertRegex(done.stderr, rf"\A(.*: a: .*\n)?{named}\Z")
             self.assertEqual(sorted(os.listdir(self.folder)), ["a.log", "limited", "text.md", "text.sheet", "text.sheet.alt"])
             self.assertEqual(self.read() == text, code != "x")
 
@@ -261,7 +281,7 @@ class Troubles(Messages):
         self.assertEqual((status, said[-1]), (1, f"the picture pipe.png isn't in the page: {self.place('pipe.png')} is no plain file"))
 
     def test_an_output_that_takes_nothing(self) -> None:
-        """No call has succeeded of which something couldn't be printed; one whose reader has seen enough says nothing of that."""
+        """No call has succeeded of which something couldn't be printed."""
         self.write(self.front("a") + fences([("a", "x")]))
         for unbuffered in ("", "1"):
             for words in (["--help"], ["--version"], ["--output", "-", self.text], ["--check", "--output", self.place("none.md"), self.text]):
@@ -270,11 +290,37 @@ class Troubles(Messages):
                 self.assertEqual(done.returncode, 1, words)
                 self.assertRegex(done.stderr, r"(?:\A|\n)[^\n]+: No space left on device\n\Z")
                 self.assertNotIn("Traceback", done.stderr)
-        reader, writer = os.pipe()
-        os.close(reader)
-        with os.fdopen(writer, "wb") as closed:
-            done = subprocess.run(command_words("--help"), stdout=closed, stderr=subprocess.PIPE, text=True, env=environment())
-        self.assertEqual((done.returncode, done.stderr), (1, ""))
+
+    def test_a_reader_that_has_gone(self) -> None:
+        """It has seen enough, as `head` has, so nothing is said, also where Python keeps nothing back."""
+        self.weave(self.front("a") + fences([("a", "x")]))
+        other = self.place("other.md")
+        self.write(self.front("a") + fences([("a", "y")]), other)
+        for unbuffered in ("", "1"):
+            for words in (["--help"], ["--version"], ["--output", "-", self.text], ["--check", other], ["--test", other]):
+                reader, writer = os.pipe()
+                os.close(reader)
+                with self.subTest(words, unbuffered=unbuffered), os.fdopen(writer, "wb") as gone:
+                    done = subprocess.run(command_words(*words), stdout=gone, stderr=subprocess.PIPE, text=True, env=environment(PYTHONUNBUFFERED=unbuffered))
+                    self.assertEqual((done.returncode, done.stderr), (1, ""))
+
+    def test_a_reader_that_goes_meanwhile(self) -> None:
+        """More is written to it than a pipe holds."""
+        self.weave(self.front("a") + fences([("a", "x")]) + "x" * 1_000_000)
+        for unbuffered in ("", "1"):
+            words, pipe = command_words("--output", "-", self.text), subprocess.PIPE
+            with self.subTest(unbuffered=unbuffered), subprocess.Popen(words, stdout=pipe, stderr=pipe, env=environment(PYTHONUNBUFFERED=unbuffered)) as running:
+                assert running.stdout and running.stderr
+                self.assertEqual(running.stdout.read(4), b"---\n")
+                running.stdout.close()
+                self.assertEqual((running.stderr.read(), running.wait()), (b"", 1))
+
+    def test_an_output_that_is_closed(self) -> None:
+        """By `>&-` of a shell. What prints nothing there goes on as always."""
+        self.write(self.front("a") + fences([("a", "x")]))
+        for words, wanted in ((["--help"], (1, "tmhost-weave: Bad file descriptor\n")), ([self.text], (0, f"{self.text}: a: 1 evaluated\n"))):
+            done = subprocess.run(["sh", "-c", 'exec "$@" >&-', "", *command_words(*words)], stderr=subprocess.PIPE, text=True, env=environment())
+            self.assertEqual((done.returncode, done.stderr), wanted)
 
     def test_how_full_a_disk_is(self) -> None:
         for blocks, is_full in ((0, True), (10, True), (10_000, False)):

@@ -1,4 +1,5 @@
 """The page of a text: what it has, when it is written, and where."""
+import html
 import os
 import random
 import re
@@ -11,6 +12,7 @@ from .support import Case, Outcome, fences
 from .test_documents import FRONT, HOSTILE, random_text
 from .test_pictures import PNG, SVG
 
+from tmhost_fences.troubles import needed  # noqa: E402
 from tmhost_weave.answers import ANSWER, ERROR, Piece, Shown  # noqa: E402
 from tmhost_weave.document import Document  # noqa: E402
 from tmhost_weave.matter import Matter, matter_of  # noqa: E402
@@ -126,6 +128,48 @@ class Pages(PageCase):
         self.assertIn(f"{self.text}: 1 of 4 formulas stay as their TeX\n", done.errors)
         self.assertIn("math{font-family", self.read(self.page))
 
+    @unittest.skipUnless(SETS, "there is no node, or no KaTeX")
+    def test_formulas_with_characters_that_are_escaped(self) -> None:
+        """Those that Python or markdown-it escapes, in prose, in a title and in answers: each is set."""
+        of_markdown_it = needed("markdown_it.common.utils", "python3-markdown-it").escapeHtml
+        marks = [chr(code) for code in range(32, 256) if chr(code) != html.escape(chr(code)) or chr(code) != of_markdown_it(chr(code))]
+        self.assertEqual("".join(marks), "\"&'<>")
+        wanted = [f"f'_{at} \\text{{{chr(92) * (mark == '&')}{mark} }}" for at, mark in enumerate(marks)]
+        front = self.front("a").replace("---\n", "---\ntitle: The slope $f'(x)$\n", 1)
+        code = "\n".join(f"both text|$g{tex}$" for tex in wanted).replace("\\", "\\\\")
+        done = self.paged(front + "".join(f"A ${tex}$.\n\n$${tex}$$\n\n" for tex in wanted) + "*$a<b$* [$c'$](#x)\n\n" + fences([("a", code)]), "--no-errors")
+        self.assertNotIn("formula", done.errors)
+        found = [html.unescape(tex) for tex in re.findall(r'alttext="([^"]*)"', self.body())]
+        self.assertEqual(found, ["f'(x)", *(tex for one in wanted for tex in (one, one)), "a<b", "c'", *(f"g{tex}" for tex in wanted)])
+
+    @unittest.skipUnless(SETS, "there is no node, or no KaTeX")
+    def test_formulas_that_stay(self) -> None:
+        """Each is named by its TeX, with its line in the file or that of the fence whose answer it is. With `--no-errors` the status is 1; the page is written."""
+        front = self.front("a").replace("---\n", "---\ntitle: A $\\title$\n", 1)
+        prose = "\n\n> two $\\first$\n> $y$ and $\\second$, $\\first$\n\n|a|b|\n|-|-|\n|1|$\\cell$|\n\n$$\n\\block\n$$\n\n$x +\n \\nothing " + "x" * 99 + "$\n"
+        text = front + fences([("a", "x\nboth text|$\\\\made$"), ("a", "y")]) + prose
+        done = self.paged(text)
+        lines = self.read().split("\n")
+        places = [(part, 1 + next(at for at, line in enumerate(lines) if part in line)) for part in ("first", "second", "cell", "block", "$x +")]
+        places[3] = (places[3][0], places[3][1] - 1)  # with its dollars
+        fence = lines.index("```a") + 1
+        said = [line.removeprefix(f"{self.text}: ") for line in done.errors.splitlines() if "stays as its TeX" in line]
+        cut = ("$x +\n \\nothing " + "x" * 99)[:60].replace("\n", "\\n")
+        names = ["$\\first$", "$\\second$", "$\\cell$", "$$\\n\\block\\n$$", cut + ".."]
+        wanted = ["the formula $\\title$", f"line {fence}: the formula $\\made$", *(f"line {line}: the formula {name}" for name, (_, line) in zip(names, places))]
+        self.assertEqual([one.split(" stays as its TeX: ")[0] for one in said], wanted)
+        for one, name in zip(said, ("title", "made", "first", "second", "cell", "block", "nothing")):
+            self.assertIn(f" stays as its TeX: KaTeX parse error: Undefined control sequence: \\{name} ", one)
+        self.assertIn(f"{self.text}: 7 of 8 formulas stay as their TeX\n", done.errors)
+        page = self.read(self.page)
+        os.remove(self.page)
+        strict = self.paged(self.read(), "--no-errors", status=1)
+        self.assertEqual((strict.errors, self.read(self.page)), (done.errors.replace(f"{self.text}: a: 3 evaluated\n", ""), page))
+        for kept, again in ((text, ["--output", self.place("out.md")]), (text, ["--output", "-"])):
+            done = self.paged(kept, *again)
+            line = 1 + next(at for at, line in enumerate(kept.split("\n")) if "second" in line)
+            self.assertIn(f"{self.text}: line {line}: the formula $\\second$ stays", done.errors)
+
     def test_formulas_without_node(self) -> None:
         self.write(self.front("a") + "$x^2$\n\n" + fences([("a", "x")]))
         os.mkdir(self.place("bin"))
@@ -159,6 +203,28 @@ class Pages(PageCase):
 
 
 class When(PageCase):
+    def test_bytes_that_are_no_utf8(self) -> None:
+        """A page would have other characters, so none is written. They are said with their line, and stay in the text."""
+        self.paged(self.front("a") + fences([("a", "x")]))
+        page = self.read(self.page)
+        latin = self.front("a").encode() + "caf\u00e9 $\u00e9$\n\n".encode("latin-1") + fences([("a", "x")]).encode()
+        stay = "it has bytes that are no UTF-8, which stay as they are: save the text as UTF-8"
+        for data, more in ((latin, ""), (latin + b"\xff\n", " (and so has line {})"), (latin + b"\xff\n\n\x80\n", " (and so have 2 more lines)")):
+            with open(self.text, "wb") as file:
+                file.write(data)
+            first = data[: data.index(b"caf")].count(b"\n") + 1
+            done = self.run_weave("--html", self.page, self.text)
+            said = [line.removeprefix(f"{self.text}: ") for line in done.errors.splitlines()]
+            wanted = f"line {first}: {stay}" + more.format(data.count(b"\n"))
+            self.assertEqual((done.status, said), (1, [wanted, f"{self.page} isn't written, since the text isn't answered as it is meant"]))
+            self.assertEqual(self.read(self.page), page)
+            with open(self.text, "rb") as file:
+                woven = file.read()
+            self.assertEqual((woven.count(b"tmhost-answer"), woven.replace(f"\n\n```tmhost-answer\n{value(['x'])}\n```".encode(), b"")), (1, data))
+            for word in ("--check", "--test"):
+                done = self.run_weave(word, self.text)
+                self.assertEqual((done.status, done.output, done.errors.startswith(f"{self.text}: line {first}: {stay}")), (1, "", True), done.errors)
+
     def test_only_where_the_weave_succeeds(self) -> None:
         """Else the page that is there stays, and that is said."""
         self.paged(self.front("a") + fences([("a", "x")]))

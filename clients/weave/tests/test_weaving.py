@@ -257,9 +257,9 @@ class Weaving(Case):
     def test_a_text_without_code_of_a_session_is_reported(self) -> None:
         """With what it has, since a session may have another name than its fences."""
         for text, sessions, found in (
-            ("```python\nx\n```\n```r\ny\n```\n```python\nz\n```\n", "none, as `sessions: {py: [tmhost-python]}`", "python (2), r (1)"),
+            ("```python\nx\n```\n```r\ny\n```\n```python\nz\n```\n", "none; write them as `sessions: {py: [tmhost-python]}`", "python (2), r (1)"),
             (self.front("a") + "```\nx\n```\n", "a", "without a word (1)"),
-            ("text\n", "none, as `sessions: {py: [tmhost-python]}`", "none"),
+            ("text\n", "none; write them as `sessions: {py: [tmhost-python]}`", "none"),
             (self.front("a") + "".join(f"```x{number}\n```\n" for number in range(9)), "a", "x0 (1), x1 (1), x2 (1), x3 (1), x4 (1), .."),
         ):
             self.write(text)
@@ -351,13 +351,13 @@ class Weaving(Case):
         self.assertEqual(self.logged("a"), ["#| echo: false", "w"])
 
     def test_bytes_stay(self) -> None:
-        """Ends of lines, bytes that are no UTF-8, the mode of the file, and a link to it."""
+        """Ends of lines, bytes that are no UTF-8, of which the status says that they are there, the mode of the file, and a link to it."""
         data = self.front("a").encode().replace(b"\n", b"\r\n") + b"\xff\0\r\n> ```a\r\n> x\r\n> ```\ry\n\n```a\nz\n```"
         with open(self.text, "wb") as file:
             file.write(data)
         os.chmod(self.text, 0o640)
         os.symlink("text.md", self.place("link.md"))
-        self.assertEqual(self.run_weave(self.place("link.md")).status, 0)
+        self.assertEqual(self.run_weave(self.place("link.md")).status, 1)
         with open(self.text, "rb") as file:
             woven = file.read()
         one = b"\r\n> ```tmhost-answer\r\n> " + value(["x"]).encode() + b"\r\n> ```"

@@ -6,7 +6,7 @@ from typing import Counter, Dict, FrozenSet, Iterator, List, Optional, Sequence,
 
 from tmhost.near import near
 from tmhost_fences.blocks import FENCE, LINE, Block, block_of, cut, tokens_of
-from tmhost_fences.fields import Group, groups, language_in, whole
+from tmhost_fences.fields import SURROGATE, Group, groups, language_in, whole
 from tmhost_fences.front import SESSIONS, Sessions, front_of, sessions_meant, why_misspelt
 from tmhost_fences.info import ATTRIBUTES, LITERAL, NO, OBEYED, is_hidden, is_without_text, wants_errors
 from tmhost_fences.meant import session_meant
@@ -134,6 +134,7 @@ class Document:
         self.of_pages: Dict[str, int] = {}  # the same of options that only pages obey
         self.first, self.body = front.lines, contents[front.lines :]  # the first line after the front matter, and the lines from there on, without their ends
         self._read(self.body, self.first)
+        self._note_other_bytes()
 
     def _read(self, body: List[str], first: int) -> None:
         tokens = tokens_of(body)
@@ -161,6 +162,14 @@ class Document:
                 why = why_unevaluated(block, self.sessions)
                 self.doubts += [(block.begin + 1, why)] if why else []
 
+    def _note_other_bytes(self) -> None:
+        """Notes where bytes are no UTF-8, which stand as surrogates here. What stands as an answer is made again."""
+        answers = {line for fence in self.fences for line in range(fence.end, fence.until)}
+        lines = [at + 1 for at, line in enumerate(self.lines) if at not in answers and SURROGATE.search(line)]
+        if lines:
+            more = f" (and so has line {lines[1]})" if len(lines) == 2 else f" (and so have {len(lines) - 1} more lines)" if lines[2:] else ""
+            self.doubts.append((lines[0], f"it has bytes that are no UTF-8, which stay as they are: save the text as UTF-8{more}"))
+
     def _note_ignored(self, block: Block) -> None:
         for name in block.ignored:
             is_of_page = name == ECHO and block.options[name].lower() in NO
@@ -174,7 +183,7 @@ class Document:
 
     @property
     def is_doubtful(self) -> bool:
-        """Whether something that is most likely meant to be evaluated isn't: a fence, or all that sessions are named for."""
+        """Whether something is most likely not meant as it stands: a fence that isn't evaluated, all that sessions are named for, or bytes that are no text."""
         return bool(self.doubts) or bool(self.sessions) and not self.fences and not self.has_texts
 
     def _fence(self, block: Block, named: Tuple[str, FrozenSet[str]], finder: Finder, first: int) -> Fence:
@@ -203,13 +212,23 @@ class Document:
             at = fence.until
         return "".join(parts + self.lines[at:])
 
+    @property
+    def counts(self) -> List[int]:
+        """How many lines stand after each fence that are answers."""
+        return [fence.until - fence.end for fence in self.fences]
+
+    def counts_with(self, shown: Sequence[Shown]) -> List[int]:
+        """The same in the text with these answers."""
+        of = zip(self.fences, shown, self.counts)
+        return [count if one.is_left else len(lines_of(one, fence.prefix, fence.is_in_container)) for fence, one, count in of]
+
     def moved(self, shown: Sequence[Shown]) -> Dict[int, int]:
         """How many lines further down each fence stands in the text with these answers, by its first line."""
         found: Dict[int, int] = {}
         further = 0
-        for fence, one in zip(self.fences, shown):
+        for fence, old, new in zip(self.fences, self.counts, self.counts_with(shown)):
             found[fence.begin] = further
-            further += 0 if one.is_left else len(lines_of(one, fence.prefix, fence.is_in_container)) - (fence.until - fence.end)
+            further += new - old
         return found
 
     @property

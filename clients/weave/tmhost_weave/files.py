@@ -72,6 +72,15 @@ def locked(path: str) -> Iterator[None]:
         yield
 
 
+@contextlib.contextmanager
+def writing(name: str, kept: str) -> Iterator[None]:
+    """Has an error of the system name the file that can't be written, and say what is kept."""
+    try:
+        yield
+    except OSError as error:
+        raise Trouble(f"{name} can't be written ({error.strerror or error}): {kept}") from None
+
+
 def new_name(path: str) -> str:
     return path + ".tmhost-weave"
 

@@ -45,11 +45,16 @@ def address_of(data: bytes, format: str) -> str:
     return f"data:image/{format};base64,{base64.b64encode(data).decode('ascii')}"
 
 
-def formulas_in(tokens: Sequence[Any]) -> Iterator[Formula]:
+def formulas_in(tokens: Sequence[Any], lines: Sequence[str] = (), begin: int = 0, end: int = 0) -> Iterator[Tuple[Formula, int]]:
+    """The formulas of tokens of these lines, each with the one, from 0, in which it begins. Of a paragraph these are those from `begin` up to `end`."""
     for token in tokens:
+        begin, end = token.map or (begin, end)
         if token.type == TEX:
-            yield formula_of(token)
-        yield from formulas_in(token.children or ())
+            formula = formula_of(token)
+            first = formula[0].split("\n", 1)[0]
+            begin = next((at for at in range(begin, min(end, len(lines))) if first in lines[at]), begin)
+            yield formula, begin
+        yield from formulas_in(token.children or (), lines, begin, end)
 
 
 def formula_of(token: Any) -> Formula:
@@ -58,12 +63,16 @@ def formula_of(token: Any) -> Formula:
 
 class Page:
     """`shown` is what stands after each fence of the document, `pictures` the data of those that it shows, by the names of their files. Pictures of the prose are
-    sought from a folder on. `pages` are the names of pages of the same call, by the paths of their texts. `reported` is what is to be said of the page, `is_whole` whether all is in it."""
+    sought from a folder on. `pages` are the names of pages of the same call, by the paths of their texts. `counts` says how many lines of answers stand after each
+    fence in the file of the text, whose lines are named. `reported` is what is to be said of the page, `is_whole` whether all is in it, and `has_unset` whether a
+    formula can't be set."""
 
     def __init__(
-        self, document: Document, shown: Sequence[Shown], pictures: Mapping[str, bytes], matter: Matter, folder: str, pages: Mapping[str, str] = NO_PAGES
+        self, document: Document, shown: Sequence[Shown], pictures: Mapping[str, bytes], matter: Matter, folder: str, pages: Mapping[str, str] = NO_PAGES,
+        counts: Sequence[int] = (),
     ) -> None:
         bare = Document(document.bare)
+        self._answered_at = [(fence.end, count) for fence, count in zip(bare.fences, counts)]
         self.shown: Dict[int, Shown] = {fence.begin: one for fence, one in zip(bare.fences, shown)}
         self.first, self.matter, self.pictures, self.folder = matter.lines, matter, pictures, folder
         self.lines = [cut(line)[0] for line in bare.lines[self.first :]]
@@ -77,9 +86,15 @@ class Page:
         add_figures(self._tokens)
         lead_to_pages(self._title, folder, pages)
         lead_to_pages(self._tokens, folder, pages)
-        self._formulas = typeset([*formulas_in(self._title), *formulas_in(self._tokens), *self._answered()])
+        lines: Dict[Formula, int] = {}
+        for formula, line in [*((one, self.first + at) for one, at in formulas_in(self._tokens, self.lines)), *self._answered()]:
+            lines[formula] = min(line, lines.get(formula, line))
+        self._formulas = typeset([*(one for one, _ in formulas_in(self._title)), *lines])
+        told = [self._told(said, lines.get(one)) for one, said in self._formulas.unset.items()]
+        self.reported += [said for _, said in sorted(told, key=lambda one: one[0])]
         self.reported += self._formulas.reported
         self.is_whole &= self._formulas.is_set
+        self.has_unset = bool(self._formulas.unset)
 
     def _parsed(self) -> Tuple[Any, List[Any]]:
         """The text as its readers expect it, with tables and formulas. Where that hides a fence of a session, as CommonMark alone."""
@@ -106,8 +121,16 @@ class Page:
     def _rendered(self, tokens: List[Any]) -> str:
         return str(self._parser.renderer.render(tokens, self._parser.options, self._env))
 
-    def _answered(self) -> Iterator[Formula]:
-        return ((piece.text, True) for one in self.shown.values() for piece in one.pieces if piece.kind == FORMULA)
+    def _answered(self) -> Iterator[Tuple[Formula, int]]:
+        """The formulas of the answers, each with the line of its fence."""
+        return (((piece.text, True), begin) for begin, one in self.shown.items() for piece in one.pieces if piece.kind == FORMULA)
+
+    def _told(self, text: str, line: Optional[int]) -> Tuple[int, str]:
+        """What is said of a line of the text without answers, from 0, after its number in the file, which comes first; of the title none is known."""
+        if line is None:
+            return 0, text
+        number = 1 + line + sum(count for end, count in self._answered_at if end <= line)
+        return number, f"line {number}: {text}"
 
     def html(self, name: str) -> bytes:
         """The page, for a text of this name."""

@@ -7,7 +7,7 @@ import urllib.parse
 from typing import Dict, List, Set
 
 from .answers import PICTURE, Shown
-from .files import put_in_folder
+from .files import put_in_folder, writing
 
 ADDRESS = re.compile(r"data:image/(\w+)(?:\+xml)?;base64,")
 NAME = re.compile(r"[0-9a-f]{20}\.(?:svg|png|jpeg)(?:\.tmhost-weave)?")
@@ -37,10 +37,12 @@ class Pictures:
     def missing(self) -> List[str]:
         return [name for name in self.wanted if not os.path.exists(os.path.join(self.folder, name))]
 
-    def write(self) -> None:
-        """Writes those that aren't there, each as a whole."""
+    def write(self, kept: str) -> None:
+        """Writes those that aren't there, each as a whole. `kept` is what is said to be kept where one can't be written."""
         for name in self.missing():
-            put_in_folder(os.path.join(self.folder, name), self.wanted[name])
+            path = os.path.join(self.folder, name)
+            with writing(path, kept):
+                put_in_folder(path, self.wanted[name])
 
     def remove_others(self) -> None:
         """Removes those of earlier weaves, which the text shows no more, and the folder where it is empty."""

@@ -4,16 +4,17 @@ import os
 import re
 import sys
 import tempfile
-from typing import IO, List, Optional
+from typing import List, Optional
 
 from tmhost import TmhostError
 from tmhost.errors import plain
 from tmhost.program import show_building
 from tmhost.version import ShowVersion
+from tmhost_fences.output import Parser, run_and_flush
+from tmhost_fences.troubles import Trouble
 
 from .cutting import LONGEST
 from .files import Changed, locked
-from tmhost_fences.troubles import Trouble
 from .places import fix_program, within
 from .targets import why_shared, why_unclear
 from .watching import Watched, watch
@@ -37,17 +38,12 @@ The status is 0 where all fields are answered, 1 where one isn't, where a fence 
 the session py), where a word of a fence looks misspelt, where sessions are named and nothing is evaluated, where --check says that something would
 change or --test that an answer is another one, where code with {ends} doesn't end its interpreter, or where something went wrong; 2 where the words are refused, and 130 after Control-C. An answer may
 be an error that its interpreter reports: standard error says how many are, and in which lines their code stands. With --no-errors the status is 1
-then, but for code with error=TRUE in braces; it is for code with error=FALSE without that word, too. The text is woven in any case.
+then, but for code with error=TRUE in braces; it is for code with error=FALSE without that word, too. The text is woven in any case. So it is with a
+formula of a page that can't be set and stays as its TeX: its line is said, and with --no-errors the status is 1. It is 1 where a text has bytes that
+are no UTF-8, too: they stay, and no page is written.
 """
 INTERRUPTED = 130
 NUMBER = re.compile("[1-9][0-9]{0,11}")
-
-
-class Parser(argparse.ArgumentParser):
-    """One that doesn't hide that its help can't be written."""
-
-    def _print_message(self, message: str, file: Optional[IO[str]] = None) -> None:
-        print(message, end="", file=file or sys.stderr, flush=True)
 
 
 def seconds(word: str) -> float:
@@ -77,7 +73,7 @@ def arguments(words: List[str]) -> argparse.Namespace:
     parser.add_argument(
         "--longest", type=bytes_shown, default=LONGEST, metavar="BYTES", help=f"how much of an answer's text is shown; the worksheet has it whole ({LONGEST:,})"
     )
-    parser.add_argument("--no-errors", action="store_true", help="the status is 1 where an answer is an error that isn't wanted (error=TRUE)")
+    parser.add_argument("--no-errors", action="store_true", help="the status is 1 where an answer is an error that isn't wanted (error=TRUE), or a formula of a page can't be set")
     parser.add_argument("--version", action=ShowVersion)
     given = parser.parse_args(words)
     if given.test and given.output is not None:
@@ -114,6 +110,8 @@ def has_succeeded(given: argparse.Namespace, text: str, watched: Optional[Watche
     except Changed as changed:
         print(f"{text}: {'it was saved meanwhile, and is woven again' if watched else changed}", file=sys.stderr)
         return False
+    except BrokenPipeError:
+        raise  # who reads what is printed has gone, so nothing more is
     except (Trouble, TmhostError, OSError) as trouble:
         print(f"{text}: {plain(trouble)}", file=sys.stderr)
         return False
@@ -141,16 +139,4 @@ def main(words: List[str]) -> int:
 
 def status_of(words: List[str]) -> int:
     """The status of a call. One whose output can't be written hasn't succeeded."""
-    try:
-        try:
-            return main(words)
-        finally:
-            sys.stdout.flush()
-    except BrokenPipeError:
-        why = ""  # who reads it has seen enough
-    except OSError as error:
-        why = f"tmhost-weave: {plain(error)}\n"
-    # Python would try once more at its end.
-    os.dup2(os.open(os.devnull, os.O_WRONLY), sys.stdout.fileno())
-    print(why, end="", file=sys.stderr)
-    return 1
+    return run_and_flush("tmhost-weave", main, words)

@@ -14,6 +14,9 @@ BESIDE = ". "  # a formula that has its line for itself gets the large form, and
 OUTPUTS = re.compile(r'<pre class="out">(?:\. )?(.*?)</pre>\n', re.DOTALL)
 STYLES = re.compile(r"<head>\n(.*?)</head>", re.DOTALL)
 BY_TYPESET = "tmhost-typeset: "
+LEFT = re.compile(r'left "((?:[^"\\]|\\.)*)": "((?:[^"\\]|\\.)*)"')  # what it reports of one that stays as its TeX
+ESCAPED = re.compile(r'\\(["\\])')
+MATH = "<math "
 OF_ITS_PAGE = re.compile(r"\. The page has its .*")  # that of tmhost-typeset, which isn't the page of a text
 
 Formula = Tuple[str, bool]  # with its dollars, and whether it has its line for itself
@@ -21,20 +24,28 @@ Formula = Tuple[str, bool]  # with its dollars, and whether it has its line for 
 
 @dataclasses.dataclass(frozen=True)
 class Formulas:
-    """`set` has what stands for each in a page, `styles` what that wants in its head, and `reported` what is to be said of those that stay as their TeX."""
+    """`set` has what stands for each in a page, and `styles` what that wants in its head. `unset` has what is to be said of each that can't be set and stays as its TeX,
+    and `reported` what is to be said of all together."""
 
     set: Dict[Formula, str]
     styles: str = ""
     reported: Tuple[str, ...] = ()
+    unset: Dict[Formula, str] = dataclasses.field(default_factory=dict)
     is_set: bool = True  # whether they could be tried at all
 
 
 def as_tex(formulas: Iterable[Formula], *reported: str) -> Formulas:
-    return Formulas({one: f'<span class="tex">{html.escape(one[0])}</span>' for one in formulas}, "", reported, False)
+    return Formulas({one: f'<span class="tex">{html.escape(one[0])}</span>' for one in formulas}, "", reported, {}, False)
 
 
 def lines_of(said: bytes) -> List[str]:
     return [line.removeprefix(BY_TYPESET) for line in said.decode("utf-8", "backslashreplace").splitlines()]
+
+
+def why_unset(left: "re.Match[str]") -> str:
+    """What is said of a formula that tmhost-typeset reports as left, with its TeX as far as it is shown there."""
+    tex, reason = (ESCAPED.sub(r"\1", part) for part in left.groups())
+    return f"the formula {tex} stays as its TeX: {reason}"
 
 
 def typeset(formulas: Iterable[Formula]) -> Formulas:
@@ -55,4 +66,8 @@ def typeset(formulas: Iterable[Formula]) -> Formulas:
     if done.returncode != 0 or len(found) != len(wanted) or not styles:
         why = [OF_ITS_PAGE.sub("", line) for line in lines_of(done.stderr)] or [f"{COMMAND} ended with status {done.returncode}"]
         return as_tex(wanted, f"formulas stay as their TeX: {why[0]}", *why[1:])
-    return Formulas(dict(zip(wanted, found)), styles[1], tuple(lines_of(done.stderr)))
+    lines = lines_of(done.stderr)
+    left = [one for one in map(LEFT.fullmatch, lines) if one]
+    unset = [one for one, made in zip(wanted, found) if MATH not in made]
+    reported = [line for line in lines if not LEFT.fullmatch(line)]
+    return Formulas(dict(zip(wanted, found)), styles[1], tuple(reported), dict(zip(unset, map(why_unset, left))))

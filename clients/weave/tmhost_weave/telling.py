@@ -15,7 +15,7 @@ LONGEST_INFO = 40  # characters of what stands at one
 
 def why_nothing(document: Document) -> str:
     """What is said of a text of which no fence is evaluated: an author has most likely named a session otherwise than its fences."""
-    sessions = ", ".join(document.sessions) or "none, as `sessions: {py: [tmhost-python]}`"
+    sessions = ", ".join(document.sessions) or "none; write them as `sessions: {py: [tmhost-python]}`"
     reported = [f"{ascii(info[:LONGEST_INFO])[1:-1] or 'without a word'} ({count})" for info, count in document.others.most_common(MOST_REPORTED + 1)]
     fences = ", ".join([*reported[:MOST_REPORTED], *([".."] if len(reported) > MOST_REPORTED else [])]) or "none"
     what = "each fence of a session says that it is text" if document.has_texts else "no fence is of a session"

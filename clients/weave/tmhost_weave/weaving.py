@@ -15,7 +15,7 @@ from .cutting import LONGEST, cut
 from .damage import refuse_others
 from .document import ERRORS_FAIL, ERRORS_WANTED, FOLD, HIDE, TEXTLESS, Document
 from .evaluation import NOT_ENDED, UNTRIED, Evaluator
-from .files import Changed, bytes_of, is_device, new_name, put, put_in_folder, read, read_other, refuse_other_than_files, text_of, write_to
+from .files import Changed, bytes_of, is_device, new_name, put, put_in_folder, read, read_other, refuse_other_than_files, text_of, write_to, writing
 from .inline import codes_in, why_unevaluated
 from .lives import AT_START
 from .matter import Matter, matter_of
@@ -54,9 +54,9 @@ def first_other_line(old: bytes, new: bytes) -> int:
 
 class Weave:
     """`output` is where the woven text goes: None for the text itself, "-" for standard output. `folder` is where the worksheet lies, if not beside the text.
-    `no_errors` is whether an error is a failure where the options of its fence don't say; `longest` is how many bytes of an answer's text are shown. `page` is where a
-    page of it goes, a file or a folder, if anywhere, and `texts` are all those that get one by the same call. `watched` is what goes on after it, if anything. `renews`
-    is whether all is evaluated again, of a text that is watched by the first weave."""
+    `no_errors` is whether an error is a failure where the options of its fence don't say, and a formula of a page that can't be set; `longest` is how many bytes of
+    an answer's text are shown. `page` is where a page of it goes, a file or a folder, if anywhere, and `texts` are all those that get one by the same call. `watched`
+    is what goes on after it, if anything. `renews` is whether all is evaluated again, of a text that is watched by the first weave."""
 
     def __init__(
         self, name: str, output: Optional[str], folder: Optional[str] = None, no_errors: bool = False, longest: int = LONGEST, page: Optional[str] = None,
@@ -239,7 +239,8 @@ class Weave:
 
     def write(self, woven: bytes) -> None:
         """The pictures first, which the text names then."""
-        self.pictures.write()
+        kept = f"{os.path.basename(self.sheet_path)} keeps the answers"
+        self.pictures.write(f"the text stays as it is, and {kept}")
         if self.target is None:
             sys.stdout.buffer.write(woven)
             sys.stdout.buffer.flush()
@@ -248,10 +249,11 @@ class Weave:
             write_to(self.target, woven)
             return
         remove(new_name(self.target))
-        if self.target == self.path:
-            self.write_over(woven)
-        elif read_other(self.target) != woven:
-            put(self.target, woven)
+        with writing(self.name if self.target == self.path else self.target, f"what is there stays as it is, and {kept}"):
+            if self.target == self.path:
+                self.write_over(woven)
+            elif read_other(self.target) != woven:
+                put(self.target, woven)
         self.pictures.remove_others()
 
     def write_over(self, woven: bytes) -> None:
@@ -283,15 +285,17 @@ class Weave:
             if self.page:
                 self.say(f"{self.page} isn't written, since the text isn't answered as it is meant")
             return not self.page
-        page = Page(self.document, shown, self.pictures.wanted, self.matter, os.path.dirname(self.path), self.pages)
+        counts = self.document.counts_with(shown) if self.target == self.path else self.document.counts
+        page = Page(self.document, shown, self.pictures.wanted, self.matter, os.path.dirname(self.path), self.pages, counts)
         html = page.html(os.path.splitext(os.path.basename(self.path))[0])
-        put_in_folder(self.page_place, html)
+        with writing(self.page, "the text is woven, and a page that is there stays as it is"):
+            put_in_folder(self.page_place, html)
         self.say(f"{self.page} is written")
         if self.watched:
             self.watched.takes(page.files)
         for text in page.reported:
             self.say(text)
-        return page.is_whole
+        return page.is_whole and not (self.no_errors and page.has_unset)
 
     def is_answered(self, plan: Plan, what: str) -> bool:
         """The same; says what isn't, what is done with answers that stay as they stand, and where a figure may be shown too early."""
