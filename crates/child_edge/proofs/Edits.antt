@@ -13,7 +13,7 @@ use Rattle.host_events.specs.declared.event.Event.{Event}
 use Rattle.host_events.specs.declared.event.Event.TheVariants as event
 use Rattle.host_events.specs.declared.outcome.Outcome.{Outcome}
 use Rattle.host_events.specs.declared.outcome.HostFault.{HostFault}
-use Rattle.host_events.specs.declared.outcome.HostFault.TheVariants as faults
+use Rattle.host_events.specs.declared.outcome.HostFault.TheVariants as hosts
 use Rattle.session_engine.specs.World.{World, sheet_in}
 use Rattle.session_engine.specs.Refused.{command_refusals}
 use Rattle.session_engine.specs.Does.{CommandDoes, Does, Gives, Runs}
@@ -87,12 +87,12 @@ first_edits [] rest all = tt
 first_edits (e ∷ es) rest all = (all.0, first_edits es rest all.1)
 
 -- a fault of one of them is the disk's
-edit_fault : (w : World) (e : Event) (old new : DiskView) (f : HostFault) → is_edit e ≡ true → ((f ≡ faults.Disk) → ⊥) → CauseOf w e old new f → ⊥
+edit_fault : (w : World) (e : Event) (old new : DiskView) (f : HostFault) → is_edit e ≡ true → ((f ≡ hosts.Disk) → ⊥) → CauseOf w e old new f → ⊥
 edit_fault w (event.Child name number x) old new f edit kept cause = false≢true edit
-edit_fault w (event.Command c) old new faults.Closed edit kept cause = cause
-edit_fault w (event.Command c) old new faults.Disk edit kept cause = kept refl
-edit_fault w (event.Command c) old new faults.OutOfMemory edit kept cause = false≢true cause.1
-edit_fault w (event.Command c) old new faults.JournalFull edit kept cause = false≢true cause.1
+edit_fault w (event.Command c) old new hosts.Closed edit kept cause = cause
+edit_fault w (event.Command c) old new hosts.Disk edit kept cause = kept refl
+edit_fault w (event.Command c) old new hosts.OutOfMemory edit kept cause = false≢true cause.1
+edit_fault w (event.Command c) old new hosts.JournalFull edit kept cause = false≢true cause.1
 
 pub never_stopped : (w : World) (events : List Event) (old new : HostView) (outcomes : List Outcome) (f : HostFault) → OnlyEdits events → StoppedGroup w events old new outcomes f → ⊥
 never_stopped w events old new outcomes f edits s =

@@ -6,7 +6,7 @@ use Rattle.recovery.specs.Sheets.{IsSheetImage, IsSheetOf}
 use Rattle.host_events.specs.declared.event.Event.{Event}
 use Rattle.host_events.specs.declared.outcome.Outcome.{Outcome}
 use Rattle.host_events.specs.declared.outcome.HostFault.{HostFault}
-use Rattle.host_events.specs.declared.outcome.HostFault.TheVariants as faults
+use Rattle.host_events.specs.declared.outcome.HostFault.TheVariants as hosts
 use Rattle.host_events.specs.declared.reply.Reply.{Reply}
 use Rattle.worksheet.specs.Contents.{Contents}
 use Rattle.session_engine.specs.World.{World, sheet_in}
@@ -43,11 +43,11 @@ TakesNone (group.Stopped outcomes f) = ⊥
 TakesNone group.Disk = ⊥
 
 -- what it is answered for is so on the disk as it is then
-cause-after : (w : World) (e : Event) (a b d : DiskView) (f : HostFault) → ((f ≡ faults.Disk) → ⊥) → CauseOf w e a b f → CauseOf w e d d f
-cause-after w e a b d faults.Closed kept cause = absurd cause
-cause-after w e a b d faults.Disk kept cause = absurd (kept refl)
-cause-after w e a b d faults.OutOfMemory kept cause = (refl, cause.1)
-cause-after w e a b d faults.JournalFull kept cause = (refl, cause.1, cause.2)
+cause-after : (w : World) (e : Event) (a b d : DiskView) (f : HostFault) → ((f ≡ hosts.Disk) → ⊥) → CauseOf w e a b f → CauseOf w e d d f
+cause-after w e a b d hosts.Closed kept cause = absurd cause
+cause-after w e a b d hosts.Disk kept cause = absurd (kept refl)
+cause-after w e a b d hosts.OutOfMemory kept cause = (refl, cause.1)
+cause-after w e a b d hosts.JournalFull kept cause = (refl, cause.1, cause.2)
 
 module _ (w : World) (old new : HostView) (before : old.store.real ≡ old.store.disk) (after : new.store.real ≡ new.store.disk) (stands : IsHost old w) (same : SameDisk old.store.real new.store.real) where
   pub either : (v : World) → FlushesTo (sheet_in v) old.store new.store → LeavesEither w v old.store.disk new.store.disk

@@ -9,7 +9,7 @@ use Rattle.session_engine.specs.World.{World}
 use Rattle.session_engine.specs.Host.{HostView, IsHost}
 use Rattle.session_engine.specs.Joining.{Asking, HaltsJoined, JoinsAfter, ToBeTaken, TookJoined}
 use Rattle.session_engine.specs.declared.joining.Joint.{Joint}
-use Rattle.session_engine.specs.declared.joining.JoinFault.TheVariants as stops
+use Rattle.session_engine.specs.declared.joining.JoinFault.TheVariants as joins
 use Rattle.child_edge.specs.Edge.{BrokeOff, Ran}
 use Rattle.child_edge.specs.Faithful.{Relation, At, at, Entry, FirstOf}
 use Rattle.child_edge.specs.Reported.{reported}
@@ -119,10 +119,10 @@ module _ (A : Asking) (w : World) (events : List Event) (old new : HostView) (be
     kept = took_at_once w old new before after stands same (events ++ p.more) (joint.outcomes.items ++ joint.later.items) p.took;
   }
 
-  pub lost_with_joined : HaltsJoined A w events old new stops.Disk → HaltsWithJoined A w events old new halt.Lost
+  pub lost_with_joined : HaltsJoined A w events old new joins.Disk → HaltsWithJoined A w events old new halt.Lost
   lost_with_joined (all, to_be, p) = (all, to_be, lost_at_once w old new before after stands same all p)
 
-  pub stopped_with_joined : (f : HostFault) → HaltsJoined A w events old new (stops.Stopped f) → HaltsWithJoined A w events old new (halt.Host f)
+  pub stopped_with_joined : (f : HostFault) → HaltsJoined A w events old new (joins.Stopped f) → HaltsWithJoined A w events old new (halt.Host f)
   stopped_with_joined f (all, to_be, outcomes, p) = (all, to_be, stopped_at_once w old new before after stands same all outcomes f p)
 
 -- All of it.

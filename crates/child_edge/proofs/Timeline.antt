@@ -8,7 +8,7 @@ use Rattle.host_events.specs.declared.event.Event.{Event}
 use Rattle.host_events.specs.declared.event.Event.TheVariants.{Child}
 use Rattle.host_events.specs.declared.outcome.Outcome.{Outcome}
 use Rattle.host_events.specs.declared.outcome.HostFault.{HostFault}
-use Rattle.host_events.specs.declared.outcome.HostFault.TheVariants as faults
+use Rattle.host_events.specs.declared.outcome.HostFault.TheVariants as hosts
 use Rattle.session_engine.specs.World.{World, sheet_in}
 use Rattle.session_engine.specs.Does.{Gives, following}
 use Rattle.session_engine.specs.Host.{HostView, OnDisk}
@@ -147,16 +147,16 @@ goes_up_to w d bs v f e fault h holds p stopped = go fault stopped.cause
         (started (LeftAmong v (e ∷ []) []) f.history (λ i image. left_none v (e ∷ []) [] i (stopped.held model i image)))))
 
     go : (x : HostFault) → CauseOf v e f h.store.disk x → LeavesFrontsUpTo w bs e x d h.store.disk
-    go faults.Closed cause = absurd cause
-    go faults.Disk cause =
+    go hosts.Closed cause = absurd cause
+    go hosts.Disk cause =
         let write = cause.1.0 in
         let gives : Gives v e write.does.reported (following v write.does) = (write.does, write.may, refl, refl) in (
           write.does.reported,
           goes_then w d bs v f (e ∷ []) (write.does.reported ∷ []) h.store.disk holds p
               (one_event v e write.does.reported (following v write.does) [] [] f h.store.disk gives stopped.held cause.1.1),
         )
-    go faults.OutOfMemory cause = unmoved cause.0
-    go faults.JournalFull cause = unmoved cause.0
+    go hosts.OutOfMemory cause = unmoved cause.0
+    go hosts.JournalFull cause = unmoved cause.0
 
 -- So do runs of each form.
 

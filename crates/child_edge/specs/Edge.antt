@@ -6,7 +6,7 @@ use Rattle.host_events.specs.declared.event.ChildEvent.{ChildEvent}
 use Rattle.host_events.specs.declared.event.Event.{Event}
 use Rattle.host_events.specs.declared.reply.Reply.{Reply}
 use Rattle.host_events.specs.declared.outcome.HostFault.{HostFault}
-use Rattle.host_events.specs.declared.outcome.HostFault.TheVariants as faults
+use Rattle.host_events.specs.declared.outcome.HostFault.TheVariants as hosts
 use Rattle.session_engine.specs.World.{World, life_of, sheet_in}
 use Rattle.session_engine.specs.Host.{HostView, IsHost, number_in}
 use Rattle.session_engine.specs.Faults.{CauseOf}
@@ -54,7 +54,7 @@ ByCause cause.OutOfMemory broken short = short
 
 -- the host reported that it is closed, or memory was refused
 abbrev pub ClosedOrNoMemory : EdgeCause → Type 0
-ClosedOrNoMemory why = ByCause why (λ f. f ≡ faults.Closed) (Unit {0})
+ClosedOrNoMemory why = ByCause why (λ f. f ≡ hosts.Closed) (Unit {0})
 
 -- On a closed host no command is taken.
 abbrev pub FailsClosed : {E : Type 0} → Result (Vec Reply E) EdgeFault → Type 0

@@ -9,7 +9,7 @@ use Rattle.session_engine.specs.Host.{HostView, IsHost}
 use Rattle.session_engine.specs.Groups.{LastRefused, StopsAtRefusal}
 use Rattle.child_edge.specs.Together.{AtOnce, LostTogether}
 use Rattle.child_edge.specs.declared.edit_groups.EditsFault.{EditsFault}
-use Rattle.child_edge.specs.declared.edit_groups.EditsFault.TheVariants as halt
+use Rattle.child_edge.specs.declared.edit_groups.EditsFault.TheVariants as at_edits
 
 -- where such a group ends: after all of the events, or after the first that was refused
 abbrev pub EndsBy : Bool → List Outcome → List Event → Type 0
@@ -47,5 +47,5 @@ pub record LostEdits (up_to : Bool) (w : World) (events : List Event) (old : Dis
 
 -- What a fault of that leaves: without memory none was taken.
 abbrev pub FailsEdits : Bool → World → List Event → HostView → HostView → EditsFault → Type 0
-FailsEdits up_to w events old new halt.OutOfMemory = IsHost new w × (new.store.disk ≡ old.store.disk)
-FailsEdits up_to w events old new halt.Lost = LostEdits up_to w events old.store.disk new
+FailsEdits up_to w events old new at_edits.OutOfMemory = IsHost new w × (new.store.disk ≡ old.store.disk)
+FailsEdits up_to w events old new at_edits.Lost = LostEdits up_to w events old.store.disk new

@@ -7,7 +7,7 @@ use Rattle.recovery.specs.Sheets.{IsSheetImage, IsSheetOf}
 use Rattle.host_events.specs.declared.event.Event.{Event}
 use Rattle.host_events.specs.declared.outcome.Outcome.{Outcome}
 use Rattle.host_events.specs.declared.outcome.HostFault.{HostFault}
-use Rattle.host_events.specs.declared.outcome.HostFault.TheVariants as faults
+use Rattle.host_events.specs.declared.outcome.HostFault.TheVariants as hosts
 use Rattle.session_engine.specs.World.{World, sheet_in}
 use Rattle.session_engine.specs.Does.{Runs}
 use Rattle.session_engine.specs.Host.{HostView}
@@ -132,7 +132,7 @@ course_up_to w d bs v f e fault h held p stopped = go fault (goes_up_to v f [] v
     alone after = subst (λ (os : List Outcome). Moments w (events_of bs ++ e ∷ []) os d h.store.disk) (append-nil (outcomes_of bs)) (on [] after)
 
     go : (x : HostFault) → MomentsBefore v (e ∷ []) [] x f h.store.disk → MomentsBefore w (events_of bs ++ e ∷ []) (outcomes_of bs) x d h.store.disk
-    go faults.Closed q = absurd q
-    go faults.Disk q = (q.0, on (q.0 ∷ []) q.1)
-    go faults.OutOfMemory q = alone q
-    go faults.JournalFull q = alone q
+    go hosts.Closed q = absurd q
+    go hosts.Disk q = (q.0, on (q.0 ∷ []) q.1)
+    go hosts.OutOfMemory q = alone q
+    go hosts.JournalFull q = alone q

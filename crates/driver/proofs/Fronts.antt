@@ -15,7 +15,7 @@ use Rattle.child_edge.specs.Moments.{LeavesFronts, LeavesFrontsUpTo, events_of, 
 use Rattle.child_edge.specs.Edge.{Stopped}
 use Rattle.child_edge.specs.Together.{LostTogether}
 use Rattle.host_events.specs.declared.outcome.HostFault.{HostFault}
-use Rattle.host_events.specs.declared.outcome.HostFault.TheVariants as faults
+use Rattle.host_events.specs.declared.outcome.HostFault.TheVariants as hosts
 use Rattle.offline_programs.specs.declared.fault.RunFault.{RunFault}
 use Rattle.driver.specs.Items.{Item, RunStep, after_fault, entries_of, print_fault, halt}
 use Rattle.driver.specs.Place.{RunPlace, Rules, run_at}
@@ -109,10 +109,10 @@ module _ (w : World) (d : DiskView) (bs : List Entry) (m : World) (e : DiskView)
       (after cs (x ∷ []) [] f (subst (λ (l : List Outcome). Moments m (events_of cs ++ x ∷ []) l e f) (sym (append-nil (outcomes_of cs))) later))
 
   up_to_after : (cs : List Entry) (x : Event) (fault : HostFault) (f : DiskView) → LeavesFrontsUpTo m cs x fault e f → LeavesFrontsUpTo w (bs ++ cs) x fault d f
-  up_to_after cs x faults.Closed f later = later
-  up_to_after cs x faults.Disk f later = (later.0, after cs (x ∷ []) (later.0 ∷ []) f later.1)
-  up_to_after cs x faults.OutOfMemory f later = unprinted_after cs x f later
-  up_to_after cs x faults.JournalFull f later = unprinted_after cs x f later
+  up_to_after cs x hosts.Closed f later = later
+  up_to_after cs x hosts.Disk f later = (later.0, after cs (x ∷ []) (later.0 ∷ []) f later.1)
+  up_to_after cs x hosts.OutOfMemory f later = unprinted_after cs x f later
+  up_to_after cs x hosts.JournalFull f later = unprinted_after cs x f later
 
 following : {A C K : Type 0} (p mid q : RunPlace A C K) (bs cs : List Entry) → HoldsSheet p.world p.disk → Course p.world p.disk bs mid.world mid.disk → LeavesFrontsOf mid cs q → LeavesFrontsOf p (bs ++ cs) q
 following p mid q bs cs held c (all_printed m) = all_printed (fronts_after p.world p.disk bs mid.world mid.disk held c cs q.disk m)

@@ -13,7 +13,7 @@ use Rattle.child_edge.specs.Faithful.{at}
 use Rattle.child_edge.specs.Joined.{FailsJoined, RanJoined, joining_edge}
 use Rattle.child_edge.specs.declared.joined.GaveJoined.{GaveJoined}
 use Rattle.child_edge.specs.declared.together.TogetherFault.{TogetherFault}
-use Rattle.child_edge.specs.declared.together.TogetherFault.TheVariants as at_gate
+use Rattle.child_edge.specs.declared.together.TogetherFault.TheVariants as halt
 use Rattle.offline_programs.specs.declared.fault.RunFault.{RunFault}
 use Rattle.offline_programs.specs.declared.fault.RunFault.TheVariants as fault
 use Rattle.driver.specs.Reports.{lines}
@@ -44,15 +44,15 @@ module _ {A C K : Type 0} (R : Rules A C K) (n : ℕ) (rest : List Item) (w : Wo
   pub failed_joined : (events : List Event) (left : GaveJoined → List Item) (b : A) (d : C) (g : HostView) (f : TogetherFault)
       → FailsJoined (joining_edge R.sources.after (asking R.agenda.joins a b)) (at w c h.store.disk) events g d f
       → DidSteps R there (join events ∷ rest) (left_by_answer left) (Err (fault_at_gate f)) (n, parts g d k b)
-  failed_joined events left b d g at_gate.OutOfMemory (unasked, goes_on, disk, same) =
+  failed_joined events left b d g halt.OutOfMemory (unasked, goes_on, disk, same) =
       subst (λ (y : C). DidSteps R there (join events ∷ rest) (left_by_answer left) (Err fault.OutOfMemory) (n, parts g y k b)) (sym same)
       (subst (λ (x : A). DidSteps R there (join events ∷ rest) (left_by_answer left) (Err fault.OutOfMemory) (n, parts g c k x)) (sym unasked)
       (did_break R there (join events) rest [] left fault.OutOfMemory w (n, parts g c k a)
       (subst (λ (x : DiskView). Fails R there (join events) [] fault.OutOfMemory (record there { disk = x })) (sym disk) (unjoined events)) (works goes_on)))
-  failed_joined events left b d g at_gate.Lost (all, all_are, l, same) =
+  failed_joined events left b d g halt.Lost (all, all_are, l, same) =
       subst (λ (y : C). DidSteps R there (join events ∷ rest) (left_by_answer left) (Err (fault.Host hosts.Disk)) (n, parts g y k b)) (sym same)
       (did_break R there (join events) rest [] left (fault.Host hosts.Disk) w (n, parts g c k b) (lost_joined events all b g all_are l) (lost_there all h.store.disk l))
-  failed_joined events left b d g (at_gate.Host f) (all, all_are, entries, e, v, disk, up_to, gone) =
+  failed_joined events left b d g (halt.Host f) (all, all_are, entries, e, v, disk, up_to, gone) =
       did_break R there (join events) rest entries left (fault.Host f) v (n, parts g d k b) (broken_joined events all b entries e f v d disk g all_are up_to gone) (stopped disk e f gone)
 
   -- what joined is printed, where any did

@@ -9,7 +9,7 @@ use Rattle.session_engine.specs.Whole.{HasAtMost}
 use Rattle.session_engine.specs.declared.whole.Whole.{Whole}
 use Rattle.session_engine.specs.declared.whole.Whole.TheVariants.{Taken, Refused}
 use Rattle.session_engine.specs.declared.whole.WholeFault.{WholeFault}
-use Rattle.session_engine.specs.declared.whole.WholeFault.TheVariants as at_whole
+use Rattle.session_engine.specs.declared.whole.WholeFault.TheVariants as halt
 use Rattle.child_edge.specs.Wholly.{FailsWhole, ServesWhole}
 use Rattle.host_events.specs.declared.outcome.HostFault.TheVariants as hosts
 use Rattle.offline_programs.specs.declared.fault.RunFault.TheVariants as fault
@@ -44,11 +44,11 @@ module _ {A C K : Type 0} (R : Rules A C K) (n : ℕ) (rest : List Item) (w : Wo
 
   pub failed_whole : (left : Whole → List Item) (g : HostView) (f : WholeFault) → FailsWhole w events h g f
       → DidSteps R there (take_transaction first events ∷ rest) (left_by_answer left) (Err (fault_of_whole f)) (n, parts g c k a)
-  failed_whole left g at_whole.NoRoom (goes_on, disk) =
+  failed_whole left g halt.NoRoom (goes_on, disk) =
       did_break R there (take_transaction first events) rest [] left fault.OutOfMemory w (n, parts g c k a)
       (subst (λ (x : DiskView). Fails R there (take_transaction first events) [] fault.OutOfMemory (record there { disk = x })) (sym disk) (untaken_whole first events)) (works goes_on)
-  failed_whole left g at_whole.Closed never = absurd never
-  failed_whole left g at_whole.Disk l =
+  failed_whole left g halt.Closed never = absurd never
+  failed_whole left g halt.Disk l =
       did_break R there (take_transaction first events) rest [] left (fault.Host hosts.Disk) w (n, parts g c k a) (lost_whole first events g l) (lost_there events h.store.disk l.lost)
 
 module _ {A C K : Type 0} (R : Rules A C K) (n : ℕ) (rest : List Item) (w : World) (h : HostView) (stands : IsHost h w) (c : C) (k : K) (a : A) where

@@ -7,7 +7,7 @@ use Rattle.host_events.specs.declared.event.Event.{Event}
 use Rattle.host_events.specs.declared.event.Event.TheVariants as event
 use Rattle.host_events.specs.declared.outcome.Outcome.{Outcome}
 use Rattle.host_events.specs.declared.outcome.HostFault.{HostFault}
-use Rattle.host_events.specs.declared.outcome.HostFault.TheVariants as faults
+use Rattle.host_events.specs.declared.outcome.HostFault.TheVariants as hosts
 use Rattle.session_engine.specs.World.{World}
 use Rattle.disk_model.specs.inside.Moments.{weakens}
 use Rattle.session_engine.specs.Crash.{LeftAmong, Moments, MomentsBefore}
@@ -65,10 +65,10 @@ at_fault w d entries v mid e f h course stopped = record {
     none m = ([], subst (λ (os : List Outcome). Moments w (events_of entries ++ e ∷ []) os d h.store.disk) (sym (append-nil (outcomes_of entries))) m)
 
     go : (x : HostFault) → Stopped mid h v e x → (HoldsSheet w d → MomentsBefore w (events_of entries ++ e ∷ []) (outcomes_of entries) x d h.store.disk) → HoldsSheet w d → (os : List Outcome) × Moments w (events_of entries ++ e ∷ []) (outcomes_of entries ++ os) d h.store.disk
-    go faults.Closed s m = absurd s.cause
-    go faults.Disk s m = λ held. let n = m held in (n.0 ∷ [], n.1)
-    go faults.OutOfMemory s m = λ held. none (m held)
-    go faults.JournalFull s m = λ held. none (m held)
+    go hosts.Closed s m = absurd s.cause
+    go hosts.Disk s m = λ held. let n = m held in (n.0 ∷ [], n.1)
+    go hosts.OutOfMemory s m = λ held. none (m held)
+    go hosts.JournalFull s m = λ held. none (m held)
 
 at_loss : (w : World) (d : DiskView) (events : List Event) (h : HostView) → LostTogether w events d h → Parted w d [] h.store.disk
 at_loss w d events h l = record {

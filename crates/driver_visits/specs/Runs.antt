@@ -22,7 +22,7 @@ use Rattle.driver.specs.Steps.{Run}
 use Rattle.driver.specs.Laws.{trace}
 use Rattle.driver.specs.Over.{ProgramParts, RanOver, WasNotOpened, first_place, program_parts}
 use Rattle.driver_visits.specs.declared.crashed.AfterCrash.{AfterCrash}
-use Rattle.driver_visits.specs.declared.crashed.AfterCrash.TheVariants as left
+use Rattle.driver_visits.specs.declared.crashed.AfterCrash.TheVariants as crashed_to
 use Rattle.driver_visits.specs.Visits.{turn_of}
 use Rattle.driver_visits.specs.Earlier.{CrashesLeave, EarlierUses}
 use Rattle.driver_visits.specs.Printed.{IsReportOf}
@@ -110,9 +110,9 @@ pub record OpensAfterCrash {A C K D : Type 0} (R : Rules A C K) (first last : Pr
 -- What is opened of a disk after a crash by this choice: nothing where the disk saw fewer calls than that; where it saw as many that is opened of which this
 -- is so, but where memory is refused.
 abbrev pub CrashOpens : Choice → DiskView → (Result HostView (OpenFault MemoryDisk) → Type 0) → AfterCrash → Type 0
-CrashOpens choice disk So left.NotReached = length disk.history.past < choice.moment
-CrashOpens choice disk So left.NoMemory = choice.moment ≤ length disk.history.past
-CrashOpens choice disk So (left.Opened opened) = So opened
+CrashOpens choice disk So crashed_to.NotReached = length disk.history.past < choice.moment
+CrashOpens choice disk So crashed_to.NoMemory = choice.moment ≤ length disk.history.past
+CrashOpens choice disk So (crashed_to.Opened opened) = So opened
 
 -- A run over a disk was answered so, a crash by this choice left this image of the disk, and that was opened.
 pub data RunsThenCrashes {A C K D : Type 0} (R : Rules A C K) (first last : ProgramParts A C K) (choice : Choice) (opened : Result HostView (OpenFault D)) : Result (Unit {0}) RunFault → Type 0 where

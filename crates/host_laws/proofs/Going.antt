@@ -16,7 +16,7 @@ use Rattle.host_events.specs.declared.command.Command.TheVariants as command
 use Rattle.host_events.specs.declared.event.Event.{Event}
 use Rattle.host_events.specs.declared.event.Event.TheVariants as event
 use Rattle.host_events.specs.declared.outcome.HostFault.{HostFault}
-use Rattle.host_events.specs.declared.outcome.HostFault.TheVariants as faults
+use Rattle.host_events.specs.declared.outcome.HostFault.TheVariants as hosts
 use Rattle.host_events.specs.declared.outcome.Outcome.{Outcome}
 use Rattle.session_engine.specs.World.{World, world_at_opening, sheet_in}
 use Rattle.session_engine.specs.Does.{Does, MayDo, Runs, following}
@@ -235,15 +235,15 @@ module _ (room end : ℕ) (before : Image) (found : List Op) (allowed : Allowed 
       i image
 
   stopped : (old new : HostView) (fault : HostFault) → StoppedAt w events old new reported fault → InModel old.store.disk (Leaves (IsTurn (said ++ reported)) new.store.disk.history.now)
-  stopped old new faults.Closed s = absurd s.failed.cause
-  stopped old new faults.Disk s = λ model i image.
+  stopped old new hosts.Closed s = absurd s.failed.cause
+  stopped old new hosts.Disk s = λ model i image.
       let write = s.failed.cause.1.0 in
       ⊎_elim (without_it (s.at ∷ s.dropped) s.before s.played i) (with_it s.at s.dropped s.before s.played write.does i write.may)
       (at_end (EitherSheet s.played.leads write.does) s.before.store.disk.history new.store.disk.history
       (either_sheet s.played.leads write.does s.before.store.disk new.store.disk s.played.stands.stands.images s.failed.cause.1.1 (subst IsTrue (sym s.same.keeps_model) model)) i image)
-  stopped old new faults.OutOfMemory s = λ model i image. without_it (s.at ∷ s.dropped) s.before s.played i
+  stopped old new hosts.OutOfMemory s = λ model i image. without_it (s.at ∷ s.dropped) s.before s.played i
       (s.played.stands.stands.images (subst IsTrue (sym s.same.keeps_model) model) i (subst (λ (d : DiskView). IsImage d.history.now i) s.failed.cause.0 image))
-  stopped old new faults.JournalFull s = λ model i image. without_it (s.at ∷ s.dropped) s.before s.played i
+  stopped old new hosts.JournalFull s = λ model i image. without_it (s.at ∷ s.dropped) s.before s.played i
       (s.played.stands.stands.images (subst IsTrue (sym s.same.keeps_model) model) i (subst (λ (d : DiskView). IsImage d.history.now i) s.failed.cause.0 image))
 
 pub plays_are_turns : PlaysAreTurns

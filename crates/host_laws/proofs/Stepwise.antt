@@ -9,7 +9,7 @@ use Rattle.worksheet.specs.Checks.{Allowed}
 use Rattle.recovery.specs.Sheets.{IsSheetImage}
 use Rattle.host_events.specs.declared.event.Event.{Event}
 use Rattle.host_events.specs.declared.outcome.HostFault.{HostFault}
-use Rattle.host_events.specs.declared.outcome.HostFault.TheVariants as faults
+use Rattle.host_events.specs.declared.outcome.HostFault.TheVariants as hosts
 use Rattle.host_events.specs.declared.outcome.Outcome.{Outcome}
 use Rattle.session_engine.specs.World.{World, world_at_opening, sheet_in}
 use Rattle.session_engine.specs.Does.{Does, MayDo, Runs, following}
@@ -88,10 +88,10 @@ module _ (room end : ℕ) (before : Image) (found : List Op) (allowed : Allowed 
     took o t = does_so t.did t.may t.disk
 
     failed : (f : HostFault) → CauseOf w e old.store.disk new.store.disk f → Crashes old new
-    failed faults.Closed cause = absurd cause
-    failed faults.Disk cause = does_so cause.1.0.does cause.1.0.may cause.1.1
-    failed faults.OutOfMemory cause = stays cause.0
-    failed faults.JournalFull cause = stays cause.0
+    failed hosts.Closed cause = absurd cause
+    failed hosts.Disk cause = does_so cause.1.0.does cause.1.0.may cause.1.1
+    failed hosts.OutOfMemory cause = stays cause.0
+    failed hosts.JournalFull cause = stays cause.0
 
     acknowledged : (o : Outcome) → Took w e old new o → ((v : World) × Runs first (events ++ e ∷ []) (reported ++ o ∷ []) v × IsHost new v)
         × CrashesAreTurns room before found (record { events = events ++ e ∷ []; reported = reported ++ o ∷ [] }) new.store.disk new.store.disk

@@ -12,7 +12,7 @@ use Rattle.journal.specs.Kept.{ImageStandsFor, active_of}
 use Rattle.journal.specs.Open.{IsPassing, Tells}
 use Rattle.journal.specs.Limits.{longest_payload}
 use Rattle.journal.specs.declared.opening.OpenCause.{OpenCause}
-use Rattle.journal.specs.declared.opening.OpenCause.TheVariants as causes
+use Rattle.journal.specs.declared.opening.OpenCause.TheVariants as opens
 
 module _ (limit : ℕ) (fits : limit < 2 ^ 32) where
   -- the first four bytes tell the length
@@ -130,7 +130,7 @@ given i j ps qs same stands others =
 
 -- and then no cause lies in them
 pub refused : (i : Image) (qs : List (List ℕ)) (cause : OpenCause) → Tells i cause → ImageStandsFor i qs → IsPassing cause
-refused i qs (causes.Damaged gate) reported stands = undamaged longest_payload (omega arith) (active_of i) qs gate stands.stands reported
-refused i qs causes.NotASheet reported stands = reported stands.headed (has_header longest_payload (omega arith) (active_of i) qs stands.stands)
-refused i qs causes.Disk reported stands = tt
-refused i qs causes.OutOfMemory reported stands = tt
+refused i qs (opens.Damaged gate) reported stands = undamaged longest_payload (omega arith) (active_of i) qs gate stands.stands reported
+refused i qs opens.NotASheet reported stands = reported stands.headed (has_header longest_payload (omega arith) (active_of i) qs stands.stands)
+refused i qs opens.Disk reported stands = tt
+refused i qs opens.OutOfMemory reported stands = tt

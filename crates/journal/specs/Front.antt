@@ -7,7 +7,7 @@ use Rattle.journal.specs.Damage.{IsBroken, Walked}
 use Rattle.journal.specs.Kept.{active_of}
 use Rattle.journal.specs.Limits.{longest_payload}
 use Rattle.journal.specs.declared.opening.OpenCause.{OpenCause}
-use Rattle.journal.specs.declared.opening.OpenCause.TheVariants as causes
+use Rattle.journal.specs.declared.opening.OpenCause.TheVariants as opens
 
 -- after its header an area has the records of these payloads, and then a gate that is closed, or
 -- one that is damaged
@@ -29,10 +29,10 @@ damage_at true gate = Some gate
 -- why an image has no front: no header stands in area First or in the active one; else the cause isn't
 -- in the bytes
 abbrev pub TellsHeader : Image → OpenCause → Type 0
-TellsHeader i (causes.Damaged gate) = ⊥
-TellsHeader i causes.NotASheet = HasHeader i.first → HasHeader (active_of i) → ⊥
-TellsHeader i causes.Disk = Unit {0}
-TellsHeader i causes.OutOfMemory = Unit {0}
+TellsHeader i (opens.Damaged gate) = ⊥
+TellsHeader i opens.NotASheet = HasHeader i.first → HasHeader (active_of i) → ⊥
+TellsHeader i opens.Disk = Unit {0}
+TellsHeader i opens.OutOfMemory = Unit {0}
 
 -- a front as contracts see it: its disk, the offsets of the gate of the next payload and of the gate
 -- after all whole records, and whether that one is damaged

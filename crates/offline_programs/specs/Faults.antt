@@ -6,15 +6,15 @@ use Rattle.journal.specs.declared.opening.OpenCause.{OpenCause}
 use Rattle.journal.specs.declared.opening.OpenCause.TheVariants as opens
 use Rattle.recovery.specs.Sheets.{TellsOfSheet}
 use Rattle.host_events.specs.declared.outcome.HostFault.{HostFault}
-use Rattle.host_events.specs.declared.outcome.HostFault.TheVariants as host
+use Rattle.host_events.specs.declared.outcome.HostFault.TheVariants as hosts
 use Rattle.offline_programs.specs.declared.fault.RunFault.{RunFault}
 use Rattle.offline_programs.specs.declared.fault.RunFault.TheVariants as fault
 
 abbrev pub host_fault_text : HostFault → List ℕ
-host_fault_text host.Closed = codes "fault 20 Closed\n"
-host_fault_text host.Disk = codes "fault 21 Disk\n"
-host_fault_text host.OutOfMemory = codes "fault 22 OutOfMemory\n"
-host_fault_text host.JournalFull = codes "fault 23 JournalFull\n"
+host_fault_text hosts.Closed = codes "fault 20 Closed\n"
+host_fault_text hosts.Disk = codes "fault 21 Disk\n"
+host_fault_text hosts.OutOfMemory = codes "fault 22 OutOfMemory\n"
+host_fault_text hosts.JournalFull = codes "fault 23 JournalFull\n"
 
 -- damage is printed with the offset of its gate
 abbrev pub open_fault_text : OpenCause → List ℕ

@@ -13,7 +13,7 @@ use Rattle.recovery.specs.Sheets.{IsSheetImage, Makes}
 use Rattle.recovery.specs.declared.rescuing.Rescued.{Rescued}
 use Rattle.recovery.specs.declared.saving.SaveCause.{SaveCause}
 use Rattle.recovery.specs.declared.saving.SaveCause.TheVariants as saves
-use Rattle.host_events.specs.declared.outcome.HostFault.TheVariants as host
+use Rattle.host_events.specs.declared.outcome.HostFault.TheVariants as hosts
 use Rattle.worksheet.specs.declared.op.Op.{Op}
 use Rattle.worksheet.specs.Contents.{Contents}
 use Rattle.worksheet.specs.Ops.{sheet_of}
@@ -62,7 +62,7 @@ pub record FrontIsRead {D : Type 0} (view : D → DiskView) (disk after : D)
 -- the fault of a worksheet that can't be written
 abbrev pub save_fault : SaveCause → RescueFault
 save_fault saves.NotEmpty = rescues.NotEmpty
-save_fault saves.Full = rescues.Run (fault.Host host.JournalFull)
+save_fault saves.Full = rescues.Run (fault.Host hosts.JournalFull)
 save_fault saves.OutOfMemory = rescues.Run (fault.Open opens.OutOfMemory)
 save_fault saves.Disk = rescues.Run (fault.Open opens.Disk)
 
@@ -82,10 +82,10 @@ pub record RescueIsSaved (old new : DiskView) (sheet : Contents)
       (LeavesOnly (IsBeingSaved old.history.now sheet) old.history new.history)
   pub not_empty : InModel old (answer ≡ Err rescues.NotEmpty → AreEmpty (bytes_on old) → ⊥)
   -- that it doesn't fit is answered only where an area has no room for it, and then nothing was changed
-  pub full : answer ≡ Err (rescues.Run (fault.Host host.JournalFull))
+  pub full : answer ≡ Err (rescues.Run (fault.Host hosts.JournalFull))
       → (HasRoomAgain old.room sheet → ⊥) × (new ≡ old)
   -- where anything else is answered an area has room for it
-  pub fits : (answer ≡ Err (rescues.Run (fault.Host host.JournalFull)) → ⊥) → HasRoomAgain old.room sheet
+  pub fits : (answer ≡ Err (rescues.Run (fault.Host hosts.JournalFull)) → ⊥) → HasRoomAgain old.room sheet
   pub failed : answer ≡ Err (rescues.Run (fault.Open opens.Disk)) → Rises old.faults new.faults
   -- where anything else is answered, no call of the disk failed
   pub steady : (answer ≡ Err (rescues.Run (fault.Open opens.Disk)) → ⊥) → new.faults ≡ old.faults

@@ -7,7 +7,7 @@ use Rattle.journal.specs.Front.{FrontView, HasGivenFront, ImageHasFront, TellsHe
 use Rattle.journal.specs.Open.{IsPassing}
 use Rattle.journal.specs.declared.journal.OpenFault.{OpenFault}
 use Rattle.journal.specs.declared.opening.OpenCause.{OpenCause}
-use Rattle.journal.specs.declared.opening.OpenCause.TheVariants as causes
+use Rattle.journal.specs.declared.opening.OpenCause.TheVariants as opens
 use Rattle.offline_programs.specs.declared.fault.RunFault.TheVariants as fault
 use Rattle.past.specs.Earlier.{FirstAreRead, IsOfFirst, StandFirst, TellsOfLack, TellsOfPast, after_first}
 use Rattle.past.specs.declared.fault.PastFault.{PastFault}
@@ -45,20 +45,20 @@ enough_given old now sheet kept n disk payloads reached has far all = inr (
 -- fewer were given, and a payload was refused
 pub few_before : {D : Type 0} (i : Image) (n : ℕ) (disk : D) (sheet : SheetView) (kept : ℕ) (cause : OpenCause) (result : Result (Rescued D) (OpenFault D)) → Stops disk sheet kept cause result
     → kept < n → IfOk result (FindsRescued i) → IfOk result (FindsFirst i n)
-few_before {D = D} i n disk sheet kept (causes.Damaged gate) result stops less found =
+few_before {D = D} i n disk sheet kept (opens.Damaged gate) result stops less found =
     subst (λ (r : Result (Rescued D) (OpenFault D)). IfOk r (FindsFirst i n)) (sym stops)
     (inl (less, subst (λ (r : Result (Rescued D) (OpenFault D)). IfOk r (FindsRescued i)) stops found))
-few_before {D = D} i n disk sheet kept causes.NotASheet result stops less found = subst (λ (r : Result (Rescued D) (OpenFault D)). IfOk r (FindsFirst i n)) (sym stops) tt
-few_before {D = D} i n disk sheet kept causes.Disk result stops less found = subst (λ (r : Result (Rescued D) (OpenFault D)). IfOk r (FindsFirst i n)) (sym stops) tt
-few_before {D = D} i n disk sheet kept causes.OutOfMemory result stops less found = subst (λ (r : Result (Rescued D) (OpenFault D)). IfOk r (FindsFirst i n)) (sym stops) tt
+few_before {D = D} i n disk sheet kept opens.NotASheet result stops less found = subst (λ (r : Result (Rescued D) (OpenFault D)). IfOk r (FindsFirst i n)) (sym stops) tt
+few_before {D = D} i n disk sheet kept opens.Disk result stops less found = subst (λ (r : Result (Rescued D) (OpenFault D)). IfOk r (FindsFirst i n)) (sym stops) tt
+few_before {D = D} i n disk sheet kept opens.OutOfMemory result stops less found = subst (λ (r : Result (Rescued D) (OpenFault D)). IfOk r (FindsFirst i n)) (sym stops) tt
 
 -- and those are at most so many
 pub most_before : {D : Type 0} (n : ℕ) (disk : D) (sheet : SheetView) (kept : ℕ) (cause : OpenCause) (result : Result (Rescued D) (OpenFault D)) → Stops disk sheet kept cause result
     → kept < n → IfOk result (λ found. found.kept ≤ n)
-most_before {D = D} n disk sheet kept (causes.Damaged gate) result stops less = subst (λ (r : Result (Rescued D) (OpenFault D)). IfOk r (λ found. found.kept ≤ n)) (sym stops) (omega (arith, less))
-most_before {D = D} n disk sheet kept causes.NotASheet result stops less = subst (λ (r : Result (Rescued D) (OpenFault D)). IfOk r (λ found. found.kept ≤ n)) (sym stops) tt
-most_before {D = D} n disk sheet kept causes.Disk result stops less = subst (λ (r : Result (Rescued D) (OpenFault D)). IfOk r (λ found. found.kept ≤ n)) (sym stops) tt
-most_before {D = D} n disk sheet kept causes.OutOfMemory result stops less = subst (λ (r : Result (Rescued D) (OpenFault D)). IfOk r (λ found. found.kept ≤ n)) (sym stops) tt
+most_before {D = D} n disk sheet kept (opens.Damaged gate) result stops less = subst (λ (r : Result (Rescued D) (OpenFault D)). IfOk r (λ found. found.kept ≤ n)) (sym stops) (omega (arith, less))
+most_before {D = D} n disk sheet kept opens.NotASheet result stops less = subst (λ (r : Result (Rescued D) (OpenFault D)). IfOk r (λ found. found.kept ≤ n)) (sym stops) tt
+most_before {D = D} n disk sheet kept opens.Disk result stops less = subst (λ (r : Result (Rescued D) (OpenFault D)). IfOk r (λ found. found.kept ≤ n)) (sym stops) tt
+most_before {D = D} n disk sheet kept opens.OutOfMemory result stops less = subst (λ (r : Result (Rescued D) (OpenFault D)). IfOk r (λ found. found.kept ≤ n)) (sym stops) tt
 
 first_of_more : (ops more : List Op) → take (length ops) (ops ++ more) ≡ ops
 first_of_more ops more = take-append-le (length ops) ops more (omega arith) ∙ take_all (length ops) ops (omega arith)
@@ -72,7 +72,7 @@ after_enough longest i n ops all damage sheet first count is rescued =
       is ∙ ap sheet_of (sym (first_of_more ops more.0) ∙ ap (λ (m : ℕ). take m (ops ++ more.0)) count ∙ ap (λ (l : List Op). take n l) (sym more.1)),
     )
 
-lack_no_fault : {T P : Type 0} (n : ℕ) (damage : Option ℕ) → let one : Result T PastFault = Err (lack n damage) in one ≡ Err (past.Run (fault.Open causes.Disk)) → P
+lack_no_fault : {T P : Type 0} (n : ℕ) (damage : Option ℕ) → let one : Result T PastFault = Err (lack n damage) in one ≡ Err (past.Run (fault.Open opens.Disk)) → P
 lack_no_fault n None e = absurd cc
 lack_no_fault n (Some gate) e = absurd cc
 
@@ -131,24 +131,24 @@ module _ {D : Type 0} (view : D → DiskView) (n : ℕ) (disk : D) (found : Resc
   }
 
 headed : (i : Image) (n : ℕ) (cause : OpenCause) → TellsHeader i cause → TellsOfLack i n cause
-headed i n (causes.Damaged gate) reported = absurd reported
-headed i n causes.NotASheet reported = reported
-headed i n causes.Disk reported = tt
-headed i n causes.OutOfMemory reported = tt
+headed i n (opens.Damaged gate) reported = absurd reported
+headed i n opens.NotASheet reported = reported
+headed i n opens.Disk reported = tt
+headed i n opens.OutOfMemory reported = tt
 
 pub passing_reported : (i : Image) (cause : OpenCause) → IsPassing cause → TellsHeader i cause
-passing_reported i (causes.Damaged gate) passing = absurd passing
-passing_reported i causes.NotASheet passing = absurd passing
-passing_reported i causes.Disk passing = tt
-passing_reported i causes.OutOfMemory passing = tt
+passing_reported i (opens.Damaged gate) passing = absurd passing
+passing_reported i opens.NotASheet passing = absurd passing
+passing_reported i opens.Disk passing = tt
+passing_reported i opens.OutOfMemory passing = tt
 
 same_cause : {T : Type 0} (one two : OpenCause) → let why : Result T PastFault = Err (past.Run (fault.Open one)) in why ≡ Err (past.Run (fault.Open two)) → one ≡ two
 same_cause one two e = cc
 
 -- a disk that isn't read as far, for a cause that isn't in the bytes after its header
 pub read_none : {D : Type 0} (view : D → DiskView) (n : ℕ) (disk after : D) (cause : OpenCause) → SameDisk (view disk) (view after) → InModel (view disk) (Looks (view disk).history (view after).history)
-    → InModel (view disk) (TellsHeader (bytes_on (view disk)) cause) → (cause ≡ causes.Disk → Rises (view disk).faults (view after).faults)
-    → ((cause ≡ causes.Disk → ⊥) → (view after).faults ≡ (view disk).faults) → FirstAreRead view n disk after (Err (past.Run (fault.Open cause)))
+    → InModel (view disk) (TellsHeader (bytes_on (view disk)) cause) → (cause ≡ opens.Disk → Rises (view disk).faults (view after).faults)
+    → ((cause ≡ opens.Disk → ⊥) → (view after).faults ≡ (view disk).faults) → FirstAreRead view n disk after (Err (past.Run (fault.Open cause)))
 read_none view n disk after cause same looks reported failed steady = record {
   same = same;
   looks = looks;
@@ -158,6 +158,6 @@ read_none view n disk after cause same looks reported failed steady = record {
   whole = λ model. tt;
   after_them = λ model. headed (bytes_on (view disk)) n cause (reported model);
   of_all = λ model all damage rescued. tt;
-  failed = λ e. failed (same_cause cause causes.Disk e);
+  failed = λ e. failed (same_cause cause opens.Disk e);
   steady = λ none. steady (λ e. none (ap (λ (c : OpenCause). Err (past.Run (fault.Open c))) e));
 }

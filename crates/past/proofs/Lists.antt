@@ -6,7 +6,7 @@ use Rattle.disk_model.specs.Disk.{Image, bytes_on}
 use Rattle.journal.specs.Front.{FrontView, HasGivenFront, ImageHasFront, TellsHeader, damage_at}
 use Rattle.journal.specs.Open.{IsPassing}
 use Rattle.journal.specs.declared.opening.OpenCause.{OpenCause}
-use Rattle.journal.specs.declared.opening.OpenCause.TheVariants as causes
+use Rattle.journal.specs.declared.opening.OpenCause.TheVariants as opens
 use Rattle.journal.specs.declared.walk.Payload.{Payload}
 use Rattle.offline_programs.specs.declared.fault.RunFault.{RunFault}
 use Rattle.offline_programs.specs.declared.fault.RunFault.TheVariants as fault
@@ -40,13 +40,13 @@ one_listed a b c ops o sheet count counted is before line =
 
 -- what a payload that isn't taken says
 pub refuses_in : (ops : List Op) (p : Payload) (nothing : Type 0) (line : Op → Type 0) (cause : OpenCause) → Refuses ops p cause → nothing → RefusesIn ops p nothing line cause
-refuses_in ops p nothing line (causes.Damaged gate) refuses still = (refuses, still)
-refuses_in ops p nothing line causes.NotASheet refuses still = refuses
-refuses_in ops p nothing line causes.Disk refuses still = refuses
-refuses_in ops p nothing line causes.OutOfMemory refuses still = inl still
+refuses_in ops p nothing line (opens.Damaged gate) refuses still = (refuses, still)
+refuses_in ops p nothing line opens.NotASheet refuses still = refuses
+refuses_in ops p nothing line opens.Disk refuses still = refuses
+refuses_in ops p nothing line opens.OutOfMemory refuses still = inl still
 
 -- what is listed of a payload whose op there was no memory for
-pub lists_next : (ops : List Op) (p : Payload) (nothing : Type 0) (line : Op → Type 0) (cause : OpenCause) → cause ≡ causes.OutOfMemory → ListsNext ops p line → RefusesIn ops p nothing line cause
+pub lists_next : (ops : List Op) (p : Payload) (nothing : Type 0) (line : Op → Type 0) (cause : OpenCause) → cause ≡ opens.OutOfMemory → ListsNext ops p line → RefusesIn ops p nothing line cause
 lists_next ops p nothing line cause is next = subst (λ (c : OpenCause). RefusesIn ops p nothing line c) (sym is) (inr next)
 
 own_sheet : (ops : List Op) (sheet : Contents) → Makes ops sheet → Makes ops (sheet_of ops)
@@ -87,15 +87,15 @@ list_next old now ops p payloads written line has far others next more listed =
 list_refused : (old now : FrontView) (sheet : Contents) (count : ℕ) (p : Payload) (payloads : List (List ℕ)) (cause : OpenCause) (written : List ℕ → Type 0) (nothing still : Type 0) (line : Op → Type 0) (reached : ReachedInFront old now sheet count)
     → HasGivenFront old [] payloads → (far : LeftInFront now reached.ops payloads) (others : List (List ℕ)) → far.left ≡ p.bytes ∷ others → p.gate ≡ now.gate → (still → written (history_text reached.ops))
     → ((o : Op) → line o → written (history_text (reached.ops ++ o ∷ []))) → RefusesIn reached.ops p still line cause → TellsEnd (bytes_on old.disk) written nothing cause
-list_refused old now sheet count p payloads (causes.Damaged gate) written nothing still line reached has far others next here text more refuses = (
+list_refused old now sheet count p payloads (opens.Damaged gate) written nothing still line reached has far others next here text more refuses = (
   reached.ops,
   rescued_before old now reached.ops payloads (own_sheet reached.ops sheet reached.makes) reached.damaged has far gate p.bytes others next (refuses.0.0 ∙ here) refuses.0.1,
   text refuses.1,
 )
-list_refused old now sheet count p payloads causes.NotASheet written nothing still line reached has far others next here text more refuses = absurd refuses
-list_refused old now sheet count p payloads causes.Disk written nothing still line reached has far others next here text more refuses = absurd refuses
-list_refused old now sheet count p payloads causes.OutOfMemory written nothing still line reached has far others next here text more (inl same) = inr (list_first old now sheet count payloads written reached has far (text same))
-list_refused old now sheet count p payloads causes.OutOfMemory written nothing still line reached has far others next here text more (inr listed) = inr (list_next old now reached.ops p payloads written line has far others next more listed)
+list_refused old now sheet count p payloads opens.NotASheet written nothing still line reached has far others next here text more refuses = absurd refuses
+list_refused old now sheet count p payloads opens.Disk written nothing still line reached has far others next here text more refuses = absurd refuses
+list_refused old now sheet count p payloads opens.OutOfMemory written nothing still line reached has far others next here text more (inl same) = inr (list_first old now sheet count payloads written reached has far (text same))
+list_refused old now sheet count p payloads opens.OutOfMemory written nothing still line reached has far others next here text more (inr listed) = inr (list_next old now reached.ops p payloads written line has far others next more listed)
 
 -- a payload wasn't listed
 pub list_before : (old now : FrontView) (sheet : Contents) (count : ℕ) (p : Payload) (payloads : List (List ℕ)) (why : RunFault) (written : List ℕ → Type 0) (nothing still : Type 0) (line : Op → Type 0) (reached : ReachedInFront old now sheet count)
@@ -112,10 +112,10 @@ list_before old now sheet count p payloads fault.SecondFile written nothing stil
 
 -- a cause that isn't in the bytes ends a list where it has come to
 list_passing : (i : Image) (written : List ℕ → Type 0) (nothing : Type 0) (cause : OpenCause) → IsPassing cause → ListsFirst i written → TellsList i written nothing (Err (fault.Open cause))
-list_passing i written nothing (causes.Damaged gate) passing first = absurd passing
-list_passing i written nothing causes.NotASheet passing first = absurd passing
-list_passing i written nothing causes.Disk passing first = inr first
-list_passing i written nothing causes.OutOfMemory passing first = inr first
+list_passing i written nothing (opens.Damaged gate) passing first = absurd passing
+list_passing i written nothing opens.NotASheet passing first = absurd passing
+list_passing i written nothing opens.Disk passing first = inr first
+list_passing i written nothing opens.OutOfMemory passing first = inr first
 
 pub list_stopped : (old now : FrontView) (sheet : Contents) (count : ℕ) (payloads : List (List ℕ)) (written : List ℕ → Type 0) (nothing : Type 0) (cause : OpenCause) (reached : ReachedInFront old now sheet count)
     → HasGivenFront old [] payloads → LeftInFront now reached.ops payloads → written (history_text reached.ops) → IsPassing cause → TellsList (bytes_on old.disk) written nothing (Err (fault.Open cause))
@@ -123,10 +123,10 @@ list_stopped old now sheet count payloads written nothing cause reached has far 
 
 -- and one for which no front was begun, before all
 pub list_none : (i : Image) (written : List ℕ → Type 0) (nothing : Type 0) (cause : OpenCause) → TellsHeader i cause → nothing → TellsList i written nothing (Err (fault.Open cause))
-list_none i written nothing (causes.Damaged gate) reported still = absurd reported
-list_none i written nothing causes.NotASheet reported still = (reported, still)
-list_none i written nothing causes.Disk reported still = inl still
-list_none i written nothing causes.OutOfMemory reported still = inl still
+list_none i written nothing (opens.Damaged gate) reported still = absurd reported
+list_none i written nothing opens.NotASheet reported still = (reported, still)
+list_none i written nothing opens.Disk reported still = inl still
+list_none i written nothing opens.OutOfMemory reported still = inl still
 
 -- the front and the text so far
 pub record ListedInFront (old now : FrontView) (sheet : Contents) (count : ℕ) (written : List ℕ → Type 0) : Type 0 where

@@ -425,6 +425,15 @@ outputs 'a text and an error in a notebook' 'output#one\n\002output#two\005three
 outputs 'a channel error in a notebook' 'error#x' "$(error_json x)"
 outputs 'a channel error in a text in a notebook' 'verbatim:one\n\002error#two\005' "$(stream_json 'one\n'),$(error_json two)"
 outputs 'blocks in an error in a notebook' 'output#\002output#in \002html:<b>\005 and \002latex:$x$\005\005' "$(error_json 'in {html:<b>} and {latex:$x$}')"
+# A block of the channel of answers in another block, as adapters write it, is as many outputs as it has items.
+outputs 'an error in an answer in a text in a notebook' 'verbatim:\002output#\002output#division by zero\005\005' "$(error_json 'division by zero')"
+outputs 'a text in front of such an error in a notebook' 'verbatim:one\n\002output#\002output#two\005\005' "$(stream_json 'one\n'),$(error_json two)"
+outputs 'texts around an error in such an answer in a notebook' 'verbatim:one\n\002output#two\n\002output#three\005four\005' "$(stream_json 'one\n'),$(stream_json 'two\n'),$(error_json three),$(stream_json four)"
+outputs 'a formula in such an answer in a notebook' 'verbatim:one\n\002output#\002latex:$x$\005\005' "$(stream_json 'one\n'),$(formula_json '$x$')"
+outputs 'a PNG in front of an answer that is text in a notebook' "verbatim:\002image/png;base64:$png\005\002output#one\005" "$(picture_json PNG image/png $png),$(stream_json one)"
+outputs 'an empty answer behind a formula in a notebook' 'verbatim:\002latex:$x$\005\002output#\005' "$(formula_json '$x$')"
+outputs 'an error within one in a notebook' 'verbatim:\002output#\002output#one \002output#two\005\005\005' "$(error_json 'one two')"
+noted 'an error two blocks deeper in a notebook' x 'verbatim:\002verbatim:\002output#\002output#x\005\005\005' x '"text/plain":"x"'
 noted 'an output in a text in a notebook' x 'verbatim:\002output#x\005' x '"text/plain":"x"'
 noted 'a PNG in a tag in a notebook' x "html:\002image/png;base64:$png\005" x '"text/plain":"{html:{image/png;base64:'"$png"'}}"'
 noted 'a PNG in a text in a text in a notebook' x "verbatim:\002verbatim:\002image/png;base64:$png\005\005" x '"text/plain":"{image/png;base64:'"$png"'}"'

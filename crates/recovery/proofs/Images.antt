@@ -17,7 +17,7 @@ use Rattle.journal.specs.Area.{records}
 use Rattle.journal.specs.Limits.{longest_payload}
 use Rattle.journal.specs.Owed.{owed_disk}
 use Rattle.journal.specs.declared.opening.OpenCause.{OpenCause}
-use Rattle.journal.specs.declared.opening.OpenCause.TheVariants as causes
+use Rattle.journal.specs.declared.opening.OpenCause.TheVariants as opens
 use Rattle.journal.specs.Open.{IsPassing}
 use Rattle.journal.specs.Laws.{OneList}
 use Rattle.recovery.specs.Code.{code_of, longest_reported, IsTyped, IsPayloadOf}
@@ -167,10 +167,10 @@ taken_from before (x ∷ ops) (y ∷ taken) payload more allowed p q ta tb same 
     (λ o own next. wrong o own (subst (λ (l : List Op). first_refusal (sheet_of l) o ≡ None) (append_assoc before (x ∷ []) ops) next))
 
 pub not_refused : (ops : List Op) (sheet : Contents) (cause : OpenCause) → Makes ops sheet → RefusesFrom (codes_of ops) cause → IsPassing cause
-not_refused ops sheet (causes.Damaged gate) makes refused = taken_from [] refused.ops ops refused.payload refused.more tt refused.makes.allowed makes.allowed refused.makes.typed makes.typed refused.is refused.wrong
-not_refused ops sheet causes.NotASheet makes refused = refused
-not_refused ops sheet causes.Disk makes refused = tt
-not_refused ops sheet causes.OutOfMemory makes refused = tt
+not_refused ops sheet (opens.Damaged gate) makes refused = taken_from [] refused.ops ops refused.payload refused.more tt refused.makes.allowed makes.allowed refused.makes.typed makes.typed refused.is refused.wrong
+not_refused ops sheet opens.NotASheet makes refused = refused
+not_refused ops sheet opens.Disk makes refused = tt
+not_refused ops sheet opens.OutOfMemory makes refused = tt
 
 -- where nothing has changed each image is still one of the sheet
 pub stays_either : (old new : DiskView) (sheet : Contents) (o : Op) → new ≡ old → Leaves (IsSheetImage sheet) old.history.now → (ops : List Op) → sheet ≡ sheet_of ops → LeavesOnly (IsEither ops o) old.history new.history

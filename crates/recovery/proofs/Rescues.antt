@@ -18,7 +18,7 @@ use Rattle.journal.specs.Open.{IsPassing}
 use Rattle.journal.specs.declared.walk.Payload.{Payload}
 use Rattle.journal.specs.declared.journal.OpenFault.{OpenFault}
 use Rattle.journal.specs.declared.opening.OpenCause.{OpenCause}
-use Rattle.journal.specs.declared.opening.OpenCause.TheVariants as causes
+use Rattle.journal.specs.declared.opening.OpenCause.TheVariants as opens
 use Rattle.recovery.specs.Code.{code_of, IsPayloadOf, IsTyped}
 use Rattle.recovery.specs.Sheets.{codes_of, Makes}
 use Rattle.recovery.specs.Rescued.{IsRescued, StopsAfter, stops_at}
@@ -104,27 +104,27 @@ found_whole old now sheet kept disk damage payloads reached has far none reporte
 pub found_before : {D : Type 0} (old now : FrontView) (before sheet : SheetView) (kept : ℕ) (disk : D) (p : Payload) (payloads : List (List ℕ)) (cause : OpenCause) (result : Result (Rescued D) (OpenFault D)) (reached : ReachedInFront old now before.contents kept)
     → HasGivenFront old [] payloads → (far : LeftInFront now reached.ops payloads) (others : List (List ℕ)) → far.left ≡ p.bytes ∷ others → p.gate ≡ now.gate → sheet.contents ≡ before.contents
     → Refuses reached.ops p cause → Stops disk sheet kept cause result → IfOk result (FindsRescued (bytes_on old.disk))
-found_before {D = D} old now before sheet kept disk p payloads (causes.Damaged gate) result reached has far others next here same refuses stops =
+found_before {D = D} old now before sheet kept disk p payloads (opens.Damaged gate) result reached has far others next here same refuses stops =
     subst (λ (r : Result (Rescued D) (OpenFault D)). IfOk r (FindsRescued (bytes_on old.disk))) (sym stops) (
       reached.ops,
       rescued_before old now reached.ops payloads (own_sheet reached.ops before.contents reached.makes) reached.damaged has far gate p.bytes others next (refuses.0 ∙ here) refuses.1,
       same ∙ reached.makes.is,
       reached.count,
     )
-found_before old now before sheet kept disk p payloads causes.NotASheet result reached has far others next here same refuses stops = absurd refuses
-found_before old now before sheet kept disk p payloads causes.Disk result reached has far others next here same refuses stops = absurd refuses
-found_before {D = D} old now before sheet kept disk p payloads causes.OutOfMemory result reached has far others next here same refuses stops =
+found_before old now before sheet kept disk p payloads opens.NotASheet result reached has far others next here same refuses stops = absurd refuses
+found_before old now before sheet kept disk p payloads opens.Disk result reached has far others next here same refuses stops = absurd refuses
+found_before {D = D} old now before sheet kept disk p payloads opens.OutOfMemory result reached has far others next here same refuses stops =
     subst (λ (r : Result (Rescued D) (OpenFault D)). IfOk r (FindsRescued (bytes_on old.disk))) (sym stops) tt
 
 -- and over any disk
 pub made_before : {D : Type 0} (ops : List Op) (before sheet : SheetView) (kept : ℕ) (disk : D) (p : Payload) (cause : OpenCause) (result : Result (Rescued D) (OpenFault D)) → Makes ops before.contents → kept ≡ length ops
     → sheet.contents ≡ before.contents → Refuses ops p cause → Stops disk sheet kept cause result → IfOk result (λ found. (os : List Op) × Makes os found.sheet.contents × (found.kept ≡ length os))
-made_before {D = D} ops before sheet kept disk p (causes.Damaged gate) result makes count same refuses stops =
+made_before {D = D} ops before sheet kept disk p (opens.Damaged gate) result makes count same refuses stops =
     subst (λ (r : Result (Rescued D) (OpenFault D)). IfOk r (λ found. (os : List Op) × Makes os found.sheet.contents × (found.kept ≡ length os))) (sym stops)
     (ops, subst (λ (s : Contents). Makes ops s) (sym same) makes, count)
-made_before ops before sheet kept disk p causes.NotASheet result makes count same refuses stops = absurd refuses
-made_before ops before sheet kept disk p causes.Disk result makes count same refuses stops = absurd refuses
-made_before {D = D} ops before sheet kept disk p causes.OutOfMemory result makes count same refuses stops =
+made_before ops before sheet kept disk p opens.NotASheet result makes count same refuses stops = absurd refuses
+made_before ops before sheet kept disk p opens.Disk result makes count same refuses stops = absurd refuses
+made_before {D = D} ops before sheet kept disk p opens.OutOfMemory result makes count same refuses stops =
     subst (λ (r : Result (Rescued D) (OpenFault D)). IfOk r (λ found. (os : List Op) × Makes os found.sheet.contents × (found.kept ≡ length os))) (sym stops) tt
 
 -- Allowed ops whose payloads stand there are the first of those that are rescued.
@@ -182,10 +182,10 @@ rescue_of_whole fronts i sheet ops damage image rescued =
 
 -- a cause that isn't in the bytes says nothing of a header
 passing_tells : (i : Image) (cause : OpenCause) → IsPassing cause → TellsHeader i cause
-passing_tells i (causes.Damaged gate) passing = passing
-passing_tells i causes.NotASheet passing = absurd passing
-passing_tells i causes.Disk passing = tt
-passing_tells i causes.OutOfMemory passing = tt
+passing_tells i (opens.Damaged gate) passing = passing
+passing_tells i opens.NotASheet passing = absurd passing
+passing_tells i opens.Disk passing = tt
+passing_tells i opens.OutOfMemory passing = tt
 
 pub passing_header : {D T : Type 0} (i : Image) (result : Result T (OpenFault D)) → IfErr result (λ e. IsPassing e.cause) → IfErr result (λ e. TellsHeader i e.cause)
 passing_header i (Ok x) passing = tt

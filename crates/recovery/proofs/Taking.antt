@@ -6,7 +6,7 @@ use Rattle.worksheet.specs.declared.op.Op.{Op}
 use Rattle.worksheet.specs.Contents.{Contents}
 use Rattle.journal.specs.declared.walk.Payload.{Payload}
 use Rattle.journal.specs.declared.opening.OpenCause.{OpenCause}
-use Rattle.journal.specs.declared.opening.OpenCause.TheVariants as causes
+use Rattle.journal.specs.declared.opening.OpenCause.TheVariants as opens
 use Rattle.journal.specs.Opening.{HasGiven, OpeningView}
 use Rattle.recovery.specs.Code.{code_of}
 use Rattle.recovery.specs.Sheets.{codes_of, Makes}
@@ -44,7 +44,7 @@ left_on now following ops payloads bytes sheet far next takes =
 -- a payload that is refused
 pub refused_here : (now : OpeningView) (ops : List Op) (payloads : List (List ℕ)) (p : Payload) (sheet : Contents) (cause : OpenCause) (far : Left now ops payloads)
     → (others : List (List ℕ)) → far.left ≡ p.bytes ∷ others → p.gate ≡ now.gate → Makes ops sheet → Refuses ops p cause → RefusesFrom payloads cause
-refused_here now ops payloads p sheet (causes.Damaged gate) far others next here makes refuses = record {
+refused_here now ops payloads p sheet (opens.Damaged gate) far others next here makes refuses = record {
   ops = ops;
   payload = p.bytes;
   more = others;
@@ -53,6 +53,6 @@ refused_here now ops payloads p sheet (causes.Damaged gate) far others next here
   makes = record { typed = makes.typed; lengths = makes.lengths; allowed = makes.allowed; is = refl };
   wrong = refuses.1;
 }
-refused_here now ops payloads p sheet causes.NotASheet far others next here makes refuses = refuses
-refused_here now ops payloads p sheet causes.Disk far others next here makes refuses = tt
-refused_here now ops payloads p sheet causes.OutOfMemory far others next here makes refuses = tt
+refused_here now ops payloads p sheet opens.NotASheet far others next here makes refuses = refuses
+refused_here now ops payloads p sheet opens.Disk far others next here makes refuses = tt
+refused_here now ops payloads p sheet opens.OutOfMemory far others next here makes refuses = tt

@@ -7,21 +7,21 @@ use Rattle.worksheet.specs.Ops.{sheet_of}
 use Rattle.recovery.specs.Code.{code_of}
 use Rattle.recovery.specs.Sheets.{StoreView, SameStore, HasPlace, IsEither, IsOwedOrWritten, IsSheetImage, KeepsOps, StandsWithOrWithout}
 use Rattle.recovery.specs.declared.fault.CommitFault.{CommitFault}
-use Rattle.recovery.specs.declared.fault.CommitFault.TheVariants as faults
+use Rattle.recovery.specs.declared.fault.CommitFault.TheVariants as commits
 
 -- the payload doesn't fit
 abbrev pub DoesNotFit : Result Unit CommitFault → Type 0
-DoesNotFit (Err (faults.Full o)) = Unit {0}
+DoesNotFit (Err (commits.Full o)) = Unit {0}
 DoesNotFit other = ⊥
 
 -- what a fault leaves: the op is handed back and nothing has changed, or the disk failed, the
 -- worksheet is as before, and the store is closed
 abbrev pub LeftBy : StoreView → StoreView → Op → CommitFault → Type 0
-LeftBy old new op (faults.Full back) = (back ≡ op) × SameStore old new
-LeftBy old new op (faults.OutOfMemory back) = (back ≡ op) × SameStore old new
-LeftBy old new op faults.Disk = (new.sheet.contents ≡ old.sheet.contents) × (new.closed ≡ true)
+LeftBy old new op (commits.Full back) = (back ≡ op) × SameStore old new
+LeftBy old new op (commits.OutOfMemory back) = (back ≡ op) × SameStore old new
+LeftBy old new op commits.Disk = (new.sheet.contents ≡ old.sheet.contents) × (new.closed ≡ true)
     × Rises old.disk.faults new.disk.faults
-LeftBy old new op faults.Closed = SameStore old new
+LeftBy old new op commits.Closed = SameStore old new
 
 -- the op was added: it comes after those of the worksheet, and its record, which is durable,
 -- after those on the disk
@@ -44,12 +44,12 @@ pub record Breaks (old new : StoreView) : Type 0 where
 -- what each answer to a commit of this op says of the store before and after it
 abbrev pub CommitAnswers : StoreView → StoreView → Op → Result Unit CommitFault → Type 0
 CommitAnswers old new op (Ok u) = HasPlace old (length (code_of op)) × Adds old new op
-CommitAnswers old new op (Err (faults.Full back)) = (old.closed ≡ false)
+CommitAnswers old new op (Err (commits.Full back)) = (old.closed ≡ false)
     × (HasPlace old (length (code_of op)) → ⊥) × (back ≡ op) × SameStore old new
-CommitAnswers old new op (Err (faults.OutOfMemory back)) =
+CommitAnswers old new op (Err (commits.OutOfMemory back)) =
     HasPlace old (length (code_of op)) × (back ≡ op) × SameStore old new
-CommitAnswers old new op (Err faults.Disk) = HasPlace old (length (code_of op)) × Breaks old new
-CommitAnswers old new op (Err faults.Closed) = (old.closed ≡ true) × SameStore old new
+CommitAnswers old new op (Err commits.Disk) = HasPlace old (length (code_of op)) × Breaks old new
+CommitAnswers old new op (Err commits.Closed) = (old.closed ≡ true) × SameStore old new
 
 -- A crash at any moment leaves the worksheet from before it, or this with the op; so it does of the
 -- payloads that the disk stands for; the area that isn't active is left alone.

@@ -17,7 +17,7 @@ use Rattle.worksheet.specs.Rewrite.{rewrite_of}
 use Rattle.disk_model.specs.Disk.{Image}
 use Rattle.journal.specs.Open.{IsPassing}
 use Rattle.journal.specs.declared.opening.OpenCause.{OpenCause}
-use Rattle.journal.specs.declared.opening.OpenCause.TheVariants as causes
+use Rattle.journal.specs.declared.opening.OpenCause.TheVariants as opens
 use Rattle.journal.specs.Front.{ImageHasFront}
 use Rattle.journal.specs.Kept.{ImageStandsFor}
 use Rattle.recovery.specs.Code.{code_of, HasCode, IsPayloadOf, IsTyped}
@@ -44,8 +44,8 @@ OneSheet = (s t : Contents) (i : Image) → IsSheetImage s i → IsSheetImage t 
 
 -- a disk is damaged at one gate at most, be it by the gates or by a payload that is refused
 abbrev pub OneRefusal : Type 0
-OneRefusal = (i : Image) (gate other : ℕ) → TellsOfSheet i (causes.Damaged gate)
-    → TellsOfSheet i (causes.Damaged other) → gate ≡ other
+OneRefusal = (i : Image) (gate other : ℕ) → TellsOfSheet i (opens.Damaged gate)
+    → TellsOfSheet i (opens.Damaged other) → gate ≡ other
 
 -- and no cause of a refusal lies in the bytes of an image of a worksheet
 abbrev pub SheetImageOpens : Type 0

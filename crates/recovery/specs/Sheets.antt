@@ -11,7 +11,7 @@ use Rattle.journal.specs.Kept.{ImageStandsFor, Keeps, Fits}
 use Rattle.journal.specs.Limits.{longest_payload}
 use Rattle.journal.specs.Open.{Tells}
 use Rattle.journal.specs.declared.opening.OpenCause.{OpenCause}
-use Rattle.journal.specs.declared.opening.OpenCause.TheVariants as causes
+use Rattle.journal.specs.declared.opening.OpenCause.TheVariants as opens
 use Rattle.recovery.specs.Code.{code_of, IsTyped, IsPayloadOf}
 
 -- the payloads of these ops
@@ -55,11 +55,11 @@ pub record IsRefusedAt (payloads : List (List ℕ)) (gate : ℕ) : Type 0 where
 -- What a cause says of a disk. Damage is that of the walk, or where the gates are whole the first
 -- payload that is refused.
 abbrev pub TellsOfSheet : Image → OpenCause → Type 0
-TellsOfSheet i (causes.Damaged gate) = Tells i (causes.Damaged gate)
+TellsOfSheet i (opens.Damaged gate) = Tells i (opens.Damaged gate)
     ⊎ ((payloads : List (List ℕ)) × ImageStandsFor i payloads × IsRefusedAt payloads gate)
-TellsOfSheet i causes.NotASheet = Tells i causes.NotASheet
-TellsOfSheet i causes.Disk = Unit {0}
-TellsOfSheet i causes.OutOfMemory = Unit {0}
+TellsOfSheet i opens.NotASheet = Tells i opens.NotASheet
+TellsOfSheet i opens.Disk = Unit {0}
+TellsOfSheet i opens.OutOfMemory = Unit {0}
 
 -- A store as contracts see it: its disk, as it would be if each record that is owed had been appended;
 -- while it is open the offset of the closed gate after that disk's payloads; its worksheet; and whether

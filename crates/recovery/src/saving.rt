@@ -9,7 +9,7 @@ ghost use Rattle.recovery.specs.Checkpointed.{HasRoomAgain};
 ghost use Rattle.recovery.specs.Saved.{IsBeingSaved, disk_saved};
 ghost use Rattle.recovery.specs.Sheets.{IsSheetImage, Makes};
 ghost use Rattle.recovery.specs.inside.Rescuing.{IsBeingLaid, IsOfDisk, created_cause};
-ghost use Rattle.recovery.specs.declared.saving.SaveCause.TheVariants as causes;
+ghost use Rattle.recovery.specs.declared.saving.SaveCause.TheVariants as saves;
 
 use crate::measuring::len_again;
 use crate::rewriting::{again_of, batch_of};
@@ -62,7 +62,7 @@ fn lay_again<D: Disk, S: Source>(
     ensures ok { InModel (D.view disk) (IfOk result (λ new. AreEmpty (bytes_on (D.view disk))
         × ((end : ℕ) × Keeps (D.view new).history end (S.payloads source.now)))) }
     ensures not_empty { InModel (D.view disk)
-        (IfErr result (λ e. e.cause ≡ causes.NotEmpty → AreEmpty (bytes_on (D.view disk)) → ⊥)) }
+        (IfErr result (λ e. e.cause ≡ saves.NotEmpty → AreEmpty (bytes_on (D.view disk)) → ⊥)) }
     ensures untouched { InModel (D.view disk)
         (IfErr result (λ e. (AreEmpty (bytes_on (D.view disk)) → ⊥)
         → Looks (D.view disk).history (D.view e.disk).history)) }
@@ -71,10 +71,10 @@ fn lay_again<D: Disk, S: Source>(
         (D.view disk).history (disk_saved D.view result).history) }
     ensures cause { IfErr result (λ e. IsOfDisk e.cause) }
     ensures faulty { IfErr result
-        (λ e. e.cause ≡ causes.Disk → Rises (D.view disk).faults (D.view e.disk).faults) }
+        (λ e. e.cause ≡ saves.Disk → Rises (D.view disk).faults (D.view e.disk).faults) }
     ensures steady { MatchResult result
         (λ new. (D.view new).faults ≡ (D.view disk).faults)
-        (λ e. (e.cause ≡ causes.Disk → ⊥) → (D.view e.disk).faults ≡ (D.view disk).faults) }
+        (λ e. (e.cause ≡ saves.Disk → ⊥) → (D.view e.disk).faults ≡ (D.view disk).faults) }
 {
     let journal = match Journal::create(disk) {
         Ok(journal) => journal,
@@ -115,27 +115,27 @@ pub fn save<D: Disk>(alloc: Global, disk: D, sheet: &Sheet) -> Result<D, SaveFau
         (D.view disk).history (disk_saved D.view result).history) }
 
     ensures not_empty { InModel (D.view disk)
-        (IfErr result (λ e. e.cause ≡ causes.NotEmpty → AreEmpty (bytes_on (D.view disk)) → ⊥)) }
+        (IfErr result (λ e. e.cause ≡ saves.NotEmpty → AreEmpty (bytes_on (D.view disk)) → ⊥)) }
 
     // A disk that isn't empty is left as it was, whatever fails; so is each where room or memory is
     // lacking.
     ensures untouched { InModel (D.view disk)
         (IfErr result (λ e. (AreEmpty (bytes_on (D.view disk)) → ⊥)
         → Looks (D.view disk).history (D.view e.disk).history)) }
-    ensures full { IfErr result (λ e. e.cause ≡ causes.Full
+    ensures full { IfErr result (λ e. e.cause ≡ saves.Full
         → (HasRoomAgain (D.view disk).room sheet.now.contents → ⊥) × (e.disk ≡ disk)) }
 
     // Where anything else is answered an area has room for it.
     ensures fits { MatchResult result (λ _. HasRoomAgain (D.view disk).room sheet.now.contents)
-        (λ e. (e.cause ≡ causes.Full → ⊥) → HasRoomAgain (D.view disk).room sheet.now.contents) }
-    ensures memory { IfErr result (λ e. e.cause ≡ causes.OutOfMemory → e.disk ≡ disk) }
+        (λ e. (e.cause ≡ saves.Full → ⊥) → HasRoomAgain (D.view disk).room sheet.now.contents) }
+    ensures memory { IfErr result (λ e. e.cause ≡ saves.OutOfMemory → e.disk ≡ disk) }
 
     // A failure of the disk is reported as one, and nothing else is.
     ensures faulty { IfErr result
-        (λ e. e.cause ≡ causes.Disk → Rises (D.view disk).faults (D.view e.disk).faults) }
+        (λ e. e.cause ≡ saves.Disk → Rises (D.view disk).faults (D.view e.disk).faults) }
     ensures steady { MatchResult result
         (λ new. (D.view new).faults ≡ (D.view disk).faults)
-        (λ e. (e.cause ≡ causes.Disk → ⊥) → (D.view e.disk).faults ≡ (D.view disk).faults) }
+        (λ e. (e.cause ≡ saves.Disk → ⊥) → (D.view e.disk).faults ≡ (D.view disk).faults) }
 {
     let Some(len) = len_again(disk.room(), sheet) else {
         return Err(SaveFault {

@@ -33,7 +33,7 @@ use Rattle.disk_model.specs.Disk.{DiskView, Rises}
 use Rattle.recovery.specs.Sheets.{SameStore}
 use Rattle.host_events.specs.declared.outcome.Outcome.{Outcome}
 use Rattle.host_events.specs.declared.outcome.HostFault.{HostFault}
-use Rattle.host_events.specs.declared.outcome.HostFault.TheVariants as faults
+use Rattle.host_events.specs.declared.outcome.HostFault.TheVariants as hosts
 use Rattle.worksheet.specs.declared.field.Field.{Field}
 use Rattle.worksheet.specs.Checks.{field_in, has_field}
 use Rattle.worksheet.proofs.Finds.{none_applies}
@@ -266,7 +266,7 @@ module _ (w : World) (id : ℕ) (f : Field) (e : field_in (sheet_in w).fields id
   -- the disk's fault at an Eval, after a preparation that changed nothing
   pub eval_fails : (old mid new : HostView) (r : Result Outcome HostFault) → EngineStandsFor old.store old.lives old.begun w → first_of (eval_refusals w id) ≡ None → SameStore old.store mid.store → mid.lives ≡ old.lives
       → OnErr r (new.store.sheet.contents ≡ mid.store.sheet.contents) → ((other : List ℕ) → OnErr r (number_in new.lives other ≡ number_in mid.lives other))
-      → IfErr r (λ fault. (fault ≡ faults.Disk) × Rises mid.store.disk.faults new.store.disk.faults) → OnDisk w.ops false (Some (op.Clear id)) old.store.disk new.store.disk
+      → IfErr r (λ fault. (fault ≡ hosts.Disk) × Rises mid.store.disk.faults new.store.disk.faults) → OnDisk w.ops false (Some (op.Clear id)) old.store.disk new.store.disk
       → IfErr r (Failed w (event.Command (command.Eval id)) old new)
   eval_fails old mid new (Ok x) h none same lives contents numbers fault disk = tt
   eval_fails old mid new (Err y) h none same lives contents numbers fault disk = record {

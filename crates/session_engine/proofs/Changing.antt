@@ -19,7 +19,7 @@ use Rattle.host_events.specs.declared.command.Command.TheVariants as command
 use Rattle.host_events.specs.declared.event.Event.TheVariants as event
 use Rattle.host_events.specs.declared.outcome.Outcome.{Outcome}
 use Rattle.host_events.specs.declared.outcome.HostFault.{HostFault}
-use Rattle.host_events.specs.declared.outcome.HostFault.TheVariants as faults
+use Rattle.host_events.specs.declared.outcome.HostFault.TheVariants as hosts
 use Rattle.host_events.specs.declared.reply.Reply.TheVariants as reply
 use Rattle.session_engine.specs.declared.table.Running.{Running}
 use Rattle.session_engine.proofs.Tables.{numbers_are}
@@ -159,7 +159,7 @@ module _ (w : World) (c : Command) (o : Op) (is : op_of c ≡ Some o) where
 
   -- the disk's fault at a command that only changes the worksheet
   pub change_fails : (old new : HostView) (r : Result Outcome HostFault) → EngineStandsFor old.store old.lives old.begun w → first_of (refusals_but_room w o) ≡ None → new.lives ≡ old.lives
-      → IfErr r (λ fault. (fault ≡ faults.Disk) × (new.store.sheet.contents ≡ old.store.sheet.contents) × Rises old.store.disk.faults new.store.disk.faults)
+      → IfErr r (λ fault. (fault ≡ hosts.Disk) × (new.store.sheet.contents ≡ old.store.sheet.contents) × Rises old.store.disk.faults new.store.disk.faults)
       → OnErr r (fits w o ≡ true) → OnDisk w.ops false (Some o) old.store.disk new.store.disk → IfErr r (Failed w (event.Command c) old new)
   change_fails old new (Ok x) h none lives fault fit disk = tt
   change_fails old new (Err y) h none lives fault fit disk = record {

@@ -8,7 +8,7 @@ use Rattle.recovery.specs.Sheets.{StoreView, GathersOn, IsSheetImage, IsSheetOf}
 use Rattle.host_events.specs.declared.event.Event.{Event}
 use Rattle.host_events.specs.declared.outcome.Outcome.{Outcome}
 use Rattle.host_events.specs.declared.outcome.HostFault.{HostFault}
-use Rattle.host_events.specs.declared.outcome.HostFault.TheVariants as faults
+use Rattle.host_events.specs.declared.outcome.HostFault.TheVariants as hosts
 use Rattle.session_engine.specs.declared.table.Running.{Running}
 use Rattle.session_engine.specs.World.{World, life_of, sheet_in}
 use Rattle.session_engine.specs.Host.{HostView, IsHost, number_in}
@@ -43,8 +43,8 @@ flushes_after old mid new sheet real same is flushes = λ model before images.
     (flushes (subst IsTrue (sym same.keeps_model) model) before (subst (λ (d : DiskView). Leaves (IsSheetImage before) d.history.now) (sym real) images)))
 
 -- of a flush that failed on an open store the disk has failed
-pub broke_by : {T : Type 0} (result : Result T HostFault) (fault : HostFault) (closed : Bool) (Broke : Type 0) → result ≡ Err fault → (fault ≡ faults.Closed) ⊎ (fault ≡ faults.Disk) → closed ≡ false
-    → ((result ≡ Err faults.Closed) → closed ≡ true) → ((result ≡ Err faults.Disk) → Broke) → Broke
+pub broke_by : {T : Type 0} (result : Result T HostFault) (fault : HostFault) (closed : Bool) (Broke : Type 0) → result ≡ Err fault → (fault ≡ hosts.Closed) ⊎ (fault ≡ hosts.Disk) → closed ≡ false
+    → ((result ≡ Err hosts.Closed) → closed ≡ true) → ((result ≡ Err hosts.Disk) → Broke) → Broke
 broke_by result fault closed Broke is either opened closes broke = ⊎_elim
     (λ c. let bad : true ≡ false = sym (closes (is ∙ ap (λ (f : HostFault). Err f) c)) ∙ opened in cc)
     (λ d. broke (is ∙ ap (λ (f : HostFault). Err f) d)) either
@@ -59,7 +59,7 @@ module _ (w : World) (events : List Event) (old mid new : HostView) (real : mid.
     moments = flushes_after old.store mid.store new.store (sheet_in p.leads) real same p.stands.stands.contents flushes;
   }
 
-  pub stopped_group : (reported : List Outcome) (fault : HostFault) (first : HostView) (s : StoppedAt w events first mid reported fault) → ((fault ≡ faults.Disk) → ⊥)
+  pub stopped_group : (reported : List Outcome) (fault : HostFault) (first : HostView) (s : StoppedAt w events first mid reported fault) → ((fault ≡ hosts.Disk) → ⊥)
       → new.store.sheet ≡ mid.store.sheet → new.lives ≡ mid.lives → new.closed ≡ mid.closed → IsFlushed new → StoppedGroup w events old new reported fault
   stopped_group reported fault first s kept sheet lives closed flushed = record {
     at = s.at;

@@ -4,7 +4,7 @@ use Rattle.disk_model.specs.Disk.{SameDisk}
 use Rattle.host_events.specs.declared.event.Event.{Event}
 use Rattle.host_events.specs.declared.outcome.Outcome.{Outcome}
 use Rattle.host_events.specs.declared.outcome.HostFault.{HostFault}
-use Rattle.host_events.specs.declared.outcome.HostFault.TheVariants as faults
+use Rattle.host_events.specs.declared.outcome.HostFault.TheVariants as hosts
 use Rattle.worksheet.specs.Contents.{SheetView}
 use Rattle.session_engine.specs.declared.table.Running.{Running}
 use Rattle.session_engine.specs.declared.joining.Joint.{Joint}
@@ -83,7 +83,7 @@ module _ (w : World) (events : List Event) (old mid new : HostView) (real : mid.
     took = took_group w (events ++ p.more) old mid new real same flushes (joint.outcomes.items ++ joint.later.items) p.played stands flushed;
   }
 
-  pub stopped_joined : (fault : HostFault) (s : Stops w events mid fault) → ((fault ≡ faults.Disk) → ⊥)
+  pub stopped_joined : (fault : HostFault) (s : Stops w events mid fault) → ((fault ≡ hosts.Disk) → ⊥)
       → new.store.sheet ≡ mid.store.sheet → new.lives ≡ mid.lives → new.closed ≡ mid.closed → IsFlushed new → StoppedGroup w events old new s.reported fault
   stopped_joined fault s kept sheet lives closed flushed = record {
     at = s.at;

@@ -11,7 +11,7 @@ use Rattle.worksheet.specs.declared.refusal.Refusal.{Refusal}
 use Rattle.worksheet.specs.declared.refusal.Refusal.TheVariants as refusal
 use Rattle.worksheet.specs.Contents.{Contents}
 use Rattle.recovery.specs.Sheets.{StoreView}
-use Rattle.host_events.specs.declared.outcome.HostFault.TheVariants as faults
+use Rattle.host_events.specs.declared.outcome.HostFault.TheVariants as hosts
 use Rattle.session_engine.specs.declared.commits.LoseFault.TheVariants as loses
 use Rattle.worksheet.specs.Checks.{first_refusal, has_field}
 use Rattle.plugin_core.specs.declared.item.Item.{Item}
@@ -115,8 +115,8 @@ unlost_for_disk old new why line id is fits contents rises =
     subst (λ (p : Option Op). NotLost old new p loses.Disk) (sym (kept_fits old.disk.room old.end why line id is fits)) (unlost_on_disk (op.Lost id why) contents rises)
 
 -- a fault of the end that a piece brings is one of the piece
-pub unkept_for_memory : (old new : StoreView) (o : Option Op) → NotLost old new o loses.OutOfMemory → NotKept old new o faults.OutOfMemory
+pub unkept_for_memory : (old new : StoreView) (o : Option Op) → NotLost old new o loses.OutOfMemory → NotKept old new o hosts.OutOfMemory
 unkept_for_memory old new o (unlost_in_memory p same) = unkept_in_memory p same
 
-pub unkept_for_disk : (old new : StoreView) (o : Option Op) → NotLost old new o loses.Disk → NotKept old new o faults.Disk
+pub unkept_for_disk : (old new : StoreView) (o : Option Op) → NotLost old new o loses.Disk → NotKept old new o hosts.Disk
 unkept_for_disk old new o (unlost_on_disk p contents rises) = unkept_on_disk p contents rises

@@ -9,7 +9,7 @@ use Rattle.worksheet.specs.Ops.{sheet_of}
 use Rattle.host_events.specs.declared.event.Event.{Event}
 use Rattle.host_events.specs.declared.outcome.Outcome.{Outcome}
 use Rattle.host_events.specs.declared.outcome.HostFault.{HostFault}
-use Rattle.host_events.specs.declared.outcome.HostFault.TheVariants as faults
+use Rattle.host_events.specs.declared.outcome.HostFault.TheVariants as hosts
 use Rattle.session_engine.specs.World.{World, sheet_in, renewed_if, with_op_if}
 use Rattle.session_engine.specs.Does.{Does, MayDo, Runs, following}
 use Rattle.session_engine.specs.Host.{HostView, IsHost, OnDisk, Took}
@@ -117,12 +117,12 @@ module _ (w : World) (events rest : List Event) (e : Event) (reported : List Out
 
   -- the moments so far, and those of an event that failed
   pub moments_failed : (old : DiskView) (new : HostView) (fault : HostFault) → SameDisk old host.store.disk → Moments w events reported old host.store.disk → Failed p.leads e host new fault → MomentsBefore w events reported fault old new.store.disk
-  moments_failed old new faults.Closed same before failed = absurd failed.cause
-  moments_failed old new faults.Disk same before failed =
+  moments_failed old new hosts.Closed same before failed = absurd failed.cause
+  moments_failed old new hosts.Disk same before failed =
       let write = failed.cause.1.0 in
       (write.does.reported, did_on old new.store.disk write.does write.does.reported write.may refl same before failed.cause.1.1)
-  moments_failed old new faults.OutOfMemory same before failed = subst (λ (d : DiskView). Moments w events reported old d) (sym failed.cause.0) before
-  moments_failed old new faults.JournalFull same before failed = subst (λ (d : DiskView). Moments w events reported old d) (sym failed.cause.0) before
+  moments_failed old new hosts.OutOfMemory same before failed = subst (λ (d : DiskView). Moments w events reported old d) (sym failed.cause.0) before
+  moments_failed old new hosts.JournalFull same before failed = subst (λ (d : DiskView). Moments w events reported old d) (sym failed.cause.0) before
 
 pub same_on : (a b c : DiskView) → SameDisk a b → SameDisk b c → SameDisk a c
 same_on a b c p q = record { room = q.room ∙ p.room; keeps_model = q.keeps_model ∙ p.keeps_model; later = omega (arith, p.later, q.later) }

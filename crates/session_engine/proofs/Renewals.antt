@@ -17,7 +17,7 @@ use Rattle.host_events.specs.declared.command.Command.TheVariants as command
 use Rattle.host_events.specs.declared.event.Event.{Event}
 use Rattle.host_events.specs.declared.event.Event.TheVariants as event
 use Rattle.host_events.specs.declared.outcome.HostFault.{HostFault}
-use Rattle.host_events.specs.declared.outcome.HostFault.TheVariants as faults
+use Rattle.host_events.specs.declared.outcome.HostFault.TheVariants as hosts
 use Rattle.host_events.specs.declared.outcome.Outcome.{Outcome}
 use Rattle.host_events.specs.declared.reply.Reply.TheVariants as reply
 use Rattle.session_engine.specs.declared.table.Running.{Running}
@@ -114,7 +114,7 @@ module _ (store new : StoreView) (rs : List Running) (begun : ℕ) (w : World) (
     disk = answers.2.disk;
   }
 
-  pub checkpoint_fails : CheckpointAnswers store new (Err checkpoint.Disk) → Failed w the_checkpoint (hosted store) (hosted new) faults.Disk
+  pub checkpoint_fails : CheckpointAnswers store new (Err checkpoint.Disk) → Failed w the_checkpoint (hosted store) (hosted new) hosts.Disk
   checkpoint_fails answers = record {
     contents = ap (λ (s : SheetView). s.contents) sheet ∙ h.contents;
     numbers = λ name. numbers_are rs w.lives h.lives_are name;
@@ -162,11 +162,11 @@ module _ (old new : HostView) (r : Result Outcome HostFault) (works : old.closed
       unmoved w h same = subst (λ (d : DiskView). LeavesOnly (IsSheetImage (sheet_in w)) old.store.disk.history d.history) (sym same) (started (IsSheetImage (sheet_in w)) old.store.disk.history (h.stands.images model))
 
       by_fault : (w : World) → IsHost old w → (f : HostFault) → CauseOf w the_checkpoint old.store.disk new.store.disk f → LeavesOnly (IsSheetImage (sheet_in w)) old.store.disk.history new.store.disk.history
-      by_fault w h faults.Closed cause = absurd cause
-      by_fault w h faults.Disk cause =
+      by_fault w h hosts.Closed cause = absurd cause
+      by_fault w h hosts.Disk cause =
           kept_by w (first_of (command_refusals w command.Checkpoint)) cause.1.0.does old.store.disk new.store.disk cause.1.0.may h.stands.images cause.1.1 model
-      by_fault w h faults.OutOfMemory cause = unmoved w h cause.0
-      by_fault w h faults.JournalFull cause = unmoved w h cause.0
+      by_fault w h hosts.OutOfMemory cause = unmoved w h cause.0
+      by_fault w h hosts.JournalFull cause = unmoved w h cause.0
 
       here : (w : World) → IsHost old w → (x : Result Outcome HostFault) → IfOk x (Took w the_checkpoint old new) → IfErr x (Failed w the_checkpoint old new)
           → LeavesOnly (IsSheetImage (sheet_in w)) old.store.disk.history new.store.disk.history

@@ -16,7 +16,7 @@ use Rattle.host_events.specs.declared.event.Event.{Event}
 use Rattle.host_events.specs.declared.event.Event.TheVariants as event
 use Rattle.host_events.specs.declared.outcome.Outcome.{Outcome}
 use Rattle.host_events.specs.declared.outcome.HostFault.{HostFault}
-use Rattle.host_events.specs.declared.outcome.HostFault.TheVariants as faults
+use Rattle.host_events.specs.declared.outcome.HostFault.TheVariants as hosts
 use Rattle.session_engine.specs.World.{Going, World, renewed_if, sheet_in, with_op_if}
 use Rattle.session_engine.specs.Refused.{command_refusals}
 use Rattle.session_engine.specs.Does.{CommandDoes, Does, Runs, following}
@@ -117,14 +117,14 @@ piece_is_none : (w : World) (e : Event) → is_edit e ≡ true → is_piece w e 
 piece_is_none w (event.Command c) edit is = false≢true is
 piece_is_none w (event.Child name number e) edit is = false≢true edit
 
-no_cause : (w : World) (e : Event) (old new : DiskView) (fault : HostFault) → is_edit e ≡ true → (fault ≡ faults.Disk → ⊥) → CauseOf w e old new fault → ⊥
-no_cause w e old new faults.Closed edit kept cause = cause
-no_cause w e old new faults.Disk edit kept cause = kept refl
-no_cause w e old new faults.OutOfMemory edit kept cause = takes_none w e edit cause.1
-no_cause w e old new faults.JournalFull edit kept cause = piece_is_none w e edit cause.1
+no_cause : (w : World) (e : Event) (old new : DiskView) (fault : HostFault) → is_edit e ≡ true → (fault ≡ hosts.Disk → ⊥) → CauseOf w e old new fault → ⊥
+no_cause w e old new hosts.Closed edit kept cause = cause
+no_cause w e old new hosts.Disk edit kept cause = kept refl
+no_cause w e old new hosts.OutOfMemory edit kept cause = takes_none w e edit cause.1
+no_cause w e old new hosts.JournalFull edit kept cause = piece_is_none w e edit cause.1
 
 pub never_stops : (w : World) (events : List Event) (old new : HostView) (reported : List Outcome) (fault : HostFault) → OnlyEdits events → StoppedAt w events old new reported fault
-    → (fault ≡ faults.Disk → old.store.gathers ≡ false) → old.store.gathers ≡ true → ⊥
+    → (fault ≡ hosts.Disk → old.store.gathers ≡ false) → old.store.gathers ≡ true → ⊥
 never_stops w events old new reported fault all s at_once gathers =
     no_cause s.played.leads s.at s.before.store.disk new.store.disk fault (edit_at s.played.done s.dropped s.at (subst OnlyEdits s.played.split all))
     (λ disk. false≢true (sym (at_once disk) ∙ gathers)) s.failed.cause

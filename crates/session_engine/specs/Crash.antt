@@ -6,7 +6,7 @@ use Rattle.recovery.specs.Sheets.{IsSheetImage}
 use Rattle.host_events.specs.declared.event.Event.{Event}
 use Rattle.host_events.specs.declared.outcome.Outcome.{Outcome}
 use Rattle.host_events.specs.declared.outcome.HostFault.{HostFault}
-use Rattle.host_events.specs.declared.outcome.HostFault.TheVariants as faults
+use Rattle.host_events.specs.declared.outcome.HostFault.TheVariants as hosts
 use Rattle.session_engine.specs.declared.play.PlayFault.{PlayFault}
 use Rattle.session_engine.specs.declared.play.PlayFault.TheVariants as halt
 use Rattle.session_engine.specs.World.{World, sheet_in}
@@ -51,10 +51,10 @@ TookEach w (e ∷ es) old [] v new = ⊥
 
 -- what the events so far and one that failed leave: where the disk failed, what that event was to tell belongs to it
 abbrev pub MomentsBefore : World → List Event → List Outcome → HostFault → DiskView → DiskView → Type 0
-MomentsBefore w events reported faults.Closed old new = ⊥
-MomentsBefore w events reported faults.Disk old new = (withheld : Outcome) × Moments w events (reported ++ withheld ∷ []) old new
-MomentsBefore w events reported faults.OutOfMemory old new = Moments w events reported old new
-MomentsBefore w events reported faults.JournalFull old new = Moments w events reported old new
+MomentsBefore w events reported hosts.Closed old new = ⊥
+MomentsBefore w events reported hosts.Disk old new = (withheld : Outcome) × Moments w events (reported ++ withheld ∷ []) old new
+MomentsBefore w events reported hosts.OutOfMemory old new = Moments w events reported old new
+MomentsBefore w events reported hosts.JournalFull old new = Moments w events reported old new
 
 -- Events were taken with these outcomes, and the one after them had this fault. Before it the host went
 -- on as said here. The later events are dropped.
@@ -79,4 +79,4 @@ Halts w events old new (halt.Stopped outcomes fault) = StoppedAt w events old ne
 abbrev pub PlaysClosed : {E : Type 0} → List Event → Result (Vec Outcome E) PlayFault → Type 0
 PlaysClosed events (Ok outcomes) = (events ≡ []) × (outcomes.items ≡ [])
 PlaysClosed events (Err (halt.NoRoom back)) = back.items ≡ events
-PlaysClosed events (Err (halt.Stopped outcomes fault)) = (outcomes.items ≡ []) × (fault ≡ faults.Closed)
+PlaysClosed events (Err (halt.Stopped outcomes fault)) = (outcomes.items ≡ []) × (fault ≡ hosts.Closed)

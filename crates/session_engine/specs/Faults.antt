@@ -7,7 +7,7 @@ use Rattle.host_events.specs.declared.event.ChildEvent.TheVariants as child
 use Rattle.host_events.specs.declared.event.Event.{Event}
 use Rattle.host_events.specs.declared.event.Event.TheVariants as event
 use Rattle.host_events.specs.declared.outcome.HostFault.{HostFault}
-use Rattle.host_events.specs.declared.outcome.HostFault.TheVariants as faults
+use Rattle.host_events.specs.declared.outcome.HostFault.TheVariants as hosts
 use Rattle.session_engine.specs.World.{World, sheet_in, life_of, with_number, fits_in, kept_at_end}
 use Rattle.session_engine.specs.Does.{Does, MayDo}
 use Rattle.session_engine.specs.Host.{HostView, OnDisk, number_in}
@@ -42,10 +42,10 @@ pub record MayWrite (w : World) (e : Event) : Type 0 where
 -- What a fault is answered for, and what it leaves of the disk. Where an event has no cause here, it is answered Ok: so is a Stop,
 -- and each event of a child but a piece, where it gives no op; and a piece of a life that doesn't go on.
 abbrev pub CauseOf : World → Event → DiskView → DiskView → HostFault → Type 0
-CauseOf w e old new faults.Closed = ⊥
-CauseOf w e old new faults.Disk = Rises old.faults new.faults × ((write : MayWrite w e) × OnDisk w.ops write.does.again write.does.op old new)
-CauseOf w e old new faults.OutOfMemory = (new ≡ old) × (event_takes_memory w e ≡ true)
-CauseOf w e old new faults.JournalFull = (new ≡ old) × (is_piece w e ≡ true) × ((o : Op) × MayGive w e o × (fits_in w.room w.end o ≡ false))
+CauseOf w e old new hosts.Closed = ⊥
+CauseOf w e old new hosts.Disk = Rises old.faults new.faults × ((write : MayWrite w e) × OnDisk w.ops write.does.again write.does.op old new)
+CauseOf w e old new hosts.OutOfMemory = (new ≡ old) × (event_takes_memory w e ≡ true)
+CauseOf w e old new hosts.JournalFull = (new ≡ old) × (is_piece w e ≡ true) × ((o : Op) × MayGive w e o × (fits_in w.room w.end o ≡ false))
 
 -- An event that was not taken leaves the worksheet, and each life's number, as they were.
 pub record Failed (w : World) (e : Event) (old new : HostView) (fault : HostFault) : Type 0 where

@@ -4,7 +4,7 @@ use Rattle.std.specs.List.{AllByRecursion}
 use Rattle.disk_model.specs.Disk.{InModel, Leaves, LeavesOnly}
 use Rattle.worksheet.specs.Contents.{Contents}
 use Rattle.recovery.specs.Sheets.{StoreView, GathersOn, IsSheetImage, IsSheetOf}
-use Rattle.host_events.specs.declared.outcome.HostFault.TheVariants as faults
+use Rattle.host_events.specs.declared.outcome.HostFault.TheVariants as hosts
 use Rattle.session_engine.specs.declared.play.PlayFault.{PlayFault}
 use Rattle.session_engine.specs.declared.play.PlayFault.TheVariants as halt
 use Rattle.session_engine.specs.Host.{HostView}
@@ -28,7 +28,7 @@ NoCheckpoints events = AllByRecursion (λ e. is_checkpoint e ≡ false) events
 -- the disk fails only where records are written at once
 abbrev pub OnlyAtOnce : StoreView → PlayFault → Type 0
 OnlyAtOnce old (halt.NoRoom back) = Unit {0}
-OnlyAtOnce old (halt.Stopped outcomes fault) = fault ≡ faults.Disk → old.gathers ≡ false
+OnlyAtOnce old (halt.Stopped outcomes fault) = fault ≡ hosts.Disk → old.gathers ≡ false
 
 -- nothing is owed, and each image of the disk as it stands is one of the worksheet
 abbrev pub IsFlushed : HostView → Type 0

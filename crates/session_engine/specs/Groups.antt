@@ -8,7 +8,7 @@ use Rattle.host_events.specs.declared.outcome.Outcome.{Outcome}
 use Rattle.host_events.specs.declared.reply.Reply.{Reply}
 use Rattle.host_events.specs.declared.reply.Reply.TheVariants as reply
 use Rattle.host_events.specs.declared.outcome.HostFault.{HostFault}
-use Rattle.host_events.specs.declared.outcome.HostFault.TheVariants as faults
+use Rattle.host_events.specs.declared.outcome.HostFault.TheVariants as hosts
 use Rattle.session_engine.specs.declared.play.GroupFault.{GroupFault}
 use Rattle.session_engine.specs.declared.play.GroupFault.TheVariants as halt
 use Rattle.session_engine.specs.World.{World, life_of, sheet_in}
@@ -34,7 +34,7 @@ pub record StoppedGroup (w : World) (events : List Event) (old new : HostView) (
   pub after : HostView
   pub played : HasPlayed w events (at ∷ dropped) reported before
   pub failed : Failed played.leads at before after fault
-  pub kept : (fault ≡ faults.Disk) → ⊥
+  pub kept : (fault ≡ hosts.Disk) → ⊥
   pub contents : new.store.sheet.contents ≡ sheet_in played.leads
   pub numbers : (name : List ℕ) → number_in new.lives name ≡ option_map (λ l. l.number) (life_of played.leads name)
   pub closed : new.closed ≡ true
@@ -73,7 +73,7 @@ abbrev pub PlaysGroupClosed : {E : Type 0} → Result (Vec Outcome E) GroupFault
 PlaysGroupClosed (Ok outcomes) = ⊥
 PlaysGroupClosed (Err (halt.Checkpoint back)) = ⊥
 PlaysGroupClosed (Err (halt.NoRoom back)) = ⊥
-PlaysGroupClosed (Err (halt.Stopped outcomes fault)) = (outcomes.items ≡ []) × (fault ≡ faults.Closed)
+PlaysGroupClosed (Err (halt.Stopped outcomes fault)) = (outcomes.items ≡ []) × (fault ≡ hosts.Closed)
 PlaysGroupClosed (Err halt.Disk) = ⊥
 
 -- the reply is a refusal

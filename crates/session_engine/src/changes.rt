@@ -16,7 +16,7 @@ use worksheet::{Op, Refusal};
 
 impl<D: Disk> Engine<D> {
     ghost use Rattle.host_events.specs.declared.event.Event.TheVariants as event;
-    ghost use Rattle.host_events.specs.declared.outcome.HostFault.TheVariants as faults;
+    ghost use Rattle.host_events.specs.declared.outcome.HostFault.TheVariants as hosts;
     ghost use Rattle.host_events.specs.Commands.{op_of, reply_to as reply_to_op};
     ghost use Rattle.session_engine.specs.World.{World, in_flight, sheet_in};
     ghost use Rattle.session_engine.specs.inside.Words.{fits};
@@ -71,7 +71,7 @@ impl<D: Disk> Engine<D> {
         ensures at_once { IsErrOf result HostFault.Disk → self.old.store.gathers ≡ false }
         ensures ok { (w : World) → StandsAt self.old w → AllByRecursion (SparesLife op) w.lives
             → IfOk result (Changes w op reply self.old self.new) }
-        ensures fault { IfErr result (λ fault. (fault ≡ faults.Disk)
+        ensures fault { IfErr result (λ fault. (fault ≡ hosts.Disk)
             × (self.new.store.sheet.contents ≡ self.old.store.sheet.contents)
             × Rises self.old.store.disk.faults self.new.store.disk.faults) }
         ensures fits { (w : World) → StandsAt self.old w → OnErr result (fits w op ≡ true) }

@@ -98,7 +98,7 @@ impl<D: Disk> Engine<D> {
     ghost use Rattle.session_engine.specs.inside.Words.{lives_are_spent};
     ghost use Rattle.session_engine.specs.Host.{HasField};
     ghost use Rattle.session_engine.specs.inside.Commits.{reported_asked, begun_with_words, Evaluated};
-    ghost use Rattle.host_events.specs.declared.outcome.HostFault.TheVariants as faults;
+    ghost use Rattle.host_events.specs.declared.outcome.HostFault.TheVariants as hosts;
     ghost use Rattle.std.specs.Result.{result_err};
     ghost use Rattle.worksheet.specs.Checks.{first_of, has_field};
 
@@ -250,7 +250,7 @@ impl<D: Disk> Engine<D> {
         ensures numbers { (other : List ℕ)
             → OnErr result (number_in self.new.lives.items other
             ≡ number_in self.old.lives.items other) }
-        ensures fault { IfErr result (λ fault. (fault ≡ faults.Disk)
+        ensures fault { IfErr result (λ fault. (fault ≡ hosts.Disk)
             × Rises self.old.store.disk.faults self.new.store.disk.faults) }
         ensures moments { (w : World) → StandsAt self.old w
             → InModel self.old.store.disk

@@ -9,7 +9,7 @@ use Rattle.worksheet.specs.Checks.{AllowedFrom}
 use Rattle.recovery.specs.Code.{code_of}
 use Rattle.recovery.specs.Sheets.{HasPlace, IsEither, IsSheetImage, IsStore, StoreView}
 use Rattle.sheet_check.specs.declared.accept.PutFault.{PutFault}
-use Rattle.sheet_check.specs.declared.accept.PutFault.TheVariants as fault
+use Rattle.sheet_check.specs.declared.accept.PutFault.TheVariants as refused
 
 -- the op that puts an answer into a field
 abbrev pub answer_op : ℕ → Answer → Op
@@ -56,6 +56,6 @@ pub record NoPlace (one : Op) (disk : DiskView) : Type 0 where
 -- What comes of one op after those: it is put there, or nothing is, or the disk failed.
 abbrev pub PutsOne : List Op → List Op → DiskView → Op → StoreView → Result Unit PutFault → Type 0
 PutsOne ops more disk one new (Ok u) = Stores ops (more ++ one ∷ []) disk new
-PutsOne ops more disk one new (Err fault.Full) = Stores ops more disk new × NoPlace one new.disk
-PutsOne ops more disk one new (Err fault.OutOfMemory) = Stores ops more disk new
-PutsOne ops more disk one new (Err fault.Disk) = HoldsBut ops more one disk new.disk
+PutsOne ops more disk one new (Err refused.Full) = Stores ops more disk new × NoPlace one new.disk
+PutsOne ops more disk one new (Err refused.OutOfMemory) = Stores ops more disk new
+PutsOne ops more disk one new (Err refused.Disk) = HoldsBut ops more one disk new.disk

@@ -12,10 +12,10 @@ ghost use Rattle.offline_programs.specs.declared.fault.RunFault.TheVariants as r
 ghost use Rattle.journal.specs.declared.opening.OpenCause.TheVariants as opens;
 ghost use Rattle.check_report.specs.Chosen.{is_chosen};
 ghost use Rattle.check_report.specs.Verdicts.{total};
-ghost use Rattle.check_report.specs.declared.report.ReportFormat.TheVariants as formats;
+ghost use Rattle.check_report.specs.declared.report.ReportFormat.TheVariants as format;
 ghost use Rattle.sheet_check.specs.Accept.{AcceptAnswer, AcceptLeft, FiledAll, SheetAccepts, acceptance, accepted, accepting_by, filing};
 ghost use Rattle.sheet_check.specs.Check.{IsCopy, passage};
-ghost use Rattle.sheet_check.specs.declared.named.CheckFault.TheVariants as named;
+ghost use Rattle.sheet_check.specs.declared.named.CheckFault.TheVariants as checks;
 ghost use Rattle.sheet_check.specs.Progress.{CheckShows, FieldsLeft, FieldsShow, LeavesLine, SheetShows, checked_count, display};
 ghost use Rattle.sheet_check.specs.inside.Accepting.{FieldBroke, FieldsBroke, FieldsTook, GoesOn, OnCopy, Puts, StampedSo, putting};
 ghost use Rattle.sheet_check.specs.inside.Checking.{FieldShown, FieldWrote, FieldsEnded};
@@ -71,7 +71,7 @@ fn accept_field<D: Disk, S: Disk, C: Sources, W: Stamped, P: Progress>(
     ensures stamped { is_chosen place.now.manner.request.now.chosen place.now.field.now ≡ true
         → StampedSo W.held (W.contents writer.old) store.new.disk result }
     ensures shown { IfOk result (λ after.
-        FieldShown (display formats.Accepting P.shows) place.now.all place.now.counts after
+        FieldShown (display format.Accepting P.shows) place.now.all place.now.counts after
         progress.old progress.new) }
     ensures left { IfErr result (λ _. LeavesLine P.shows progress.old progress.new) }
 {
@@ -110,11 +110,11 @@ fn accept_fields<D: Disk, S: Disk, C: Sources, W: Stamped, P: Progress>(
         (left driver.new.host driver.new.sources (W.contents writer.old) (W.contents writer.new))
         (filing W.held ops disk store.new.disk)) }
     ensures shown { IfOk result (λ counts.
-        FieldsShow (display formats.Accepting P.shows)
+        FieldsShow (display format.Accepting P.shows)
         (checked_count suite.now.manner.request.now.chosen suite.now.sheet.now.contents.fields)
         progress.old counts progress.new) }
     ensures left { IfErr result (λ _.
-        FieldsLeft (display formats.Accepting P.shows)
+        FieldsLeft (display format.Accepting P.shows)
         (checked_count suite.now.manner.request.now.chosen suite.now.sheet.now.contents.fields)
         progress.old progress.new) }
 {
@@ -164,7 +164,7 @@ fn accept_and_stop<D: Disk, S: Disk, C: Sources, W: Stamped, P: Progress>(
         suite.now.sheet.now.contents
         (passage driver.old.sources driver.new.sources (W.contents writer.old)
         (W.contents writer.new)) (filing W.held ops disk store.new.disk)) }
-    ensures shown { SheetShows (display formats.Accepting P.shows)
+    ensures shown { SheetShows (display format.Accepting P.shows)
         (checked_count suite.now.manner.request.now.chosen suite.now.sheet.now.contents.fields)
         progress.old progress.new result }
 {
@@ -196,7 +196,7 @@ fn accepted_on_copy<S: Disk, C: Sources, W: Stamped, P: Progress>(
         suite.now.sheet.now.contents
         (passage sources result.sources (W.contents writer.old) (W.contents writer.new))
         (filing W.held ops disk store.new.disk)) }
-    ensures shown { IfSome result.answer (λ counted. SheetShows (display formats.Accepting P.shows)
+    ensures shown { IfSome result.answer (λ counted. SheetShows (display format.Accepting P.shows)
         (checked_count suite.now.manner.request.now.chosen suite.now.sheet.now.contents.fields)
         progress.old progress.new counted) }
 {
@@ -236,7 +236,7 @@ fn accepted_on_copies<S: Disk, C: Sources, W: Stamped, P: Progress>(
         store.old.sheet.contents
         (passage sources result.sources (W.contents writer.old) (W.contents writer.new))
         (filing W.held ops disk store.new.disk)) }
-    ensures shown { IfSome result.answer (λ counted. SheetShows (display formats.Accepting P.shows)
+    ensures shown { IfSome result.answer (λ counted. SheetShows (display format.Accepting P.shows)
         (checked_count manner.now.request.now.chosen store.old.sheet.contents.fields)
         progress.old progress.new counted) }
 {
@@ -275,7 +275,7 @@ pub(crate) fn accept_sheet<S: Disk, C: Sources, W: Stamped, P: Progress>(
         (passage sources result.sources (W.contents writer.old) (W.contents writer.new))
         ((writer.new ≡ writer.old) × (result.sources ≡ sources))
         (filing W.held ops disk store.new.disk) result.answer }
-    ensures shown { SheetShows (display formats.Accepting P.shows)
+    ensures shown { SheetShows (display format.Accepting P.shows)
         (checked_count manner.now.request.now.chosen store.old.sheet.contents.fields)
         progress.old progress.new result.answer }
 {
@@ -312,16 +312,16 @@ pub fn check_accepting<D: Disk, C: Sources, W: Stamped, P: Progress>(
         (passage sources result.sources (W.contents writer.old) (W.contents writer.new))
         ((writer.new ≡ writer.old) × (result.sources ≡ sources)) result.answer }
 
-    ensures shown { CheckShows (display formats.Accepting P.shows) manner.now.request.now.chosen
+    ensures shown { CheckShows (display format.Accepting P.shows) manner.now.request.now.chosen
         (D.view disk)
         progress.old progress.new result.answer }
 
     // That the disk can't be read is reported only where it failed.
-    ensures failed { result.answer ≡ Err (named.Run (reported.Open opens.Disk))
+    ensures failed { result.answer ≡ Err (checks.Run (reported.Open opens.Disk))
         → Rises (D.view disk).faults (D.view result.disk).faults }
 
     // Lack of memory at the opening is reported only where no call of the disk failed.
-    ensures memory { result.answer ≡ Err (named.Run (reported.Open opens.OutOfMemory))
+    ensures memory { result.answer ≡ Err (checks.Run (reported.Open opens.OutOfMemory))
         → (D.view result.disk).faults ≡ (D.view disk).faults }
 {
     match Store::open(manner.alloc, disk) {

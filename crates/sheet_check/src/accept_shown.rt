@@ -11,7 +11,7 @@ ghost use Rattle.child_edge.specs.Faithful.{at};
 ghost use Rattle.live.specs.Records.{left};
 ghost use Rattle.sheet_check.specs.Kept.{Stores};
 ghost use Rattle.check_report.specs.Chosen.{is_chosen};
-ghost use Rattle.check_report.specs.declared.report.ReportFormat.TheVariants as formats;
+ghost use Rattle.check_report.specs.declared.report.ReportFormat.TheVariants as format;
 ghost use Rattle.sheet_check.specs.Accept.{accepted_answer, accepting_by, answer_ops};
 ghost use Rattle.sheet_check.specs.Evaluated.{came_if, reason_shown_in, shown_in};
 ghost use Rattle.sheet_check.specs.Progress.{LeavesLine, MakesRoom};
@@ -163,7 +163,7 @@ fn tell<W: Write, P: Progress>(
 ) -> Result<(), RunFault>
     ensures ok { OnOk result (Appends (W.contents writer.old) (W.contents writer.new) text.now) }
     ensures err { IfErr result (λ why. why ≡ RunFault.Output) }
-    ensures room { MakesRoom formats.Accepting P.shows verdict progress.old progress.new }
+    ensures room { MakesRoom format.Accepting P.shows verdict progress.old progress.new }
 {
     make_room(ReportFormat::Accepting, verdict, progress);
     write_and_flush(text, writer).map_err(|_| RunFault::Output)
@@ -189,7 +189,7 @@ fn take<D: Disk, W: Stamped, P: Progress>(
         (W.contents writer.old) (W.contents writer.new)) }
     ensures stamped { StampedSo W.held (W.contents writer.old) store.new.disk result }
     ensures room { IfOk result (λ j.
-        MakesRoom formats.Accepting P.shows j.verdict progress.old progress.new) }
+        MakesRoom format.Accepting P.shows j.verdict progress.old progress.new) }
     ensures left { IfErr result (λ _. LeavesLine P.shows progress.old progress.new) }
 {
     let Finding {
@@ -234,7 +234,7 @@ pub(crate) fn accept_shown<D: Disk, S: Disk, C: Sources, W: Stamped, P: Progress
         (putting store.old store.new)) }
     ensures stamped { StampedSo W.held (W.contents writer.old) store.new.disk result }
     ensures room { IfOk result (λ j.
-        MakesRoom formats.Accepting P.shows j.verdict progress.old progress.new) }
+        MakesRoom format.Accepting P.shows j.verdict progress.old progress.new) }
     ensures left { IfErr result (λ _. LeavesLine P.shows progress.old progress.new) }
 {
     worksheet::laws::ops_make_worksheets();

@@ -13,7 +13,7 @@ ghost use Rattle.check_report.specs.Chosen.{is_chosen};
 ghost use Rattle.check_report.specs.Reports.{opening_text};
 ghost use Rattle.check_report.specs.Verdicts.{total};
 ghost use Rattle.sheet_check.specs.Check.{CheckAnswer, OnlyRead, SheetAnswer, passage};
-ghost use Rattle.sheet_check.specs.declared.named.CheckFault.TheVariants as named;
+ghost use Rattle.sheet_check.specs.declared.named.CheckFault.TheVariants as checks;
 ghost use Rattle.sheet_check.specs.Progress.{CheckShows, FieldsLeft, FieldsShow, LeavesLine, MakesRoom, SheetShows, checked_count, display};
 ghost use Rattle.sheet_check.specs.inside.Checking.{FieldFailed, FieldShown, FieldWrote, FieldsEnded, FieldsFailed, FieldsStopped, FieldsWrote, OnCopy, ShownWrote, question};
 ghost use Rattle.live.specs.Records.{left};
@@ -304,11 +304,11 @@ pub fn check<D: Disk, C: Sources, W: Write, P: Progress>(
         progress.old progress.new result.answer }
 
     // That the disk failed is reported only where it did.
-    ensures failed { result.answer ≡ Err (named.Run (reported.Open opens.Disk))
+    ensures failed { result.answer ≡ Err (checks.Run (reported.Open opens.Disk))
         → Rises (D.view disk).faults (D.view result.disk).faults }
 
     // Where anything else is answered, no call of the disk failed.
-    ensures steady { (result.answer ≡ Err (named.Run (reported.Open opens.Disk)) → ⊥)
+    ensures steady { (result.answer ≡ Err (checks.Run (reported.Open opens.Disk)) → ⊥)
         → (D.view result.disk).faults ≡ (D.view disk).faults }
 {
     match Store::open(manner.alloc, disk) {

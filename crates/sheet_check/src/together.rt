@@ -10,7 +10,7 @@ ghost use Rattle.offline_programs.specs.declared.fault.RunFault.TheVariants as r
 ghost use Rattle.journal.specs.declared.opening.OpenCause.TheVariants as opens;
 ghost use Rattle.live.specs.Records.{left};
 ghost use Rattle.sheet_check.specs.Check.{IsCopy, OnlyRead, passage};
-ghost use Rattle.sheet_check.specs.declared.named.CheckFault.TheVariants as named;
+ghost use Rattle.sheet_check.specs.declared.named.CheckFault.TheVariants as checks;
 ghost use Rattle.sheet_check.specs.Progress.{CheckShows, FieldsLeft, FieldsShow, SheetShows, checked_count, display};
 ghost use Rattle.sheet_check.specs.Together.{TellsBySessions, TellsTogether, TogetherAnswer, TogetherTells, cleared, together_by};
 ghost use Rattle.sheet_check.specs.inside.Comparing.{BrokeTogether, CameTogether, EndedTogether, FailedTogether, OnCleared, ReportedTogether};
@@ -255,11 +255,11 @@ pub fn check_together<D: Disk, C: Sources, W: Write, P: Progress>(
         progress.old progress.new result.answer }
 
     // That the disk failed is reported only where it did.
-    ensures failed { result.answer ≡ Err (named.Run (reported.Open opens.Disk))
+    ensures failed { result.answer ≡ Err (checks.Run (reported.Open opens.Disk))
         → Rises (D.view disk).faults (D.view result.disk).faults }
 
     // Where anything else is answered, no call of the disk failed.
-    ensures steady { (result.answer ≡ Err (named.Run (reported.Open opens.Disk)) → ⊥)
+    ensures steady { (result.answer ≡ Err (checks.Run (reported.Open opens.Disk)) → ⊥)
         → (D.view result.disk).faults ≡ (D.view disk).faults }
 {
     match Store::open(beside.manner.alloc, disk) {

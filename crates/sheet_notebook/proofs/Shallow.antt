@@ -1,7 +1,7 @@
 -- A notebook nests six deep, and has no float.
 use Rattle.std.proofs.Common.{◌≡◌, ◌≤◌, ℕ, max, Bool, true, false, cond, ◌||◌, List, [], ◌∷◌, map, refl, ap, ap₂, arith, Option, Some, None}
 use Rattle.std.specs.Prelude.{unwrap_or}
-use Rattle.block_tree.specs.Tree.{Items, Tree, block, end, text}
+use Rattle.block_tree.specs.Tree.{Tree, block_piece, text_piece}
 use Rattle.serde_json.specs.Data.{Data, array, depth, item, items_depth, no_items}
 use Rattle.serde_json.specs.Read.{max_depth}
 use Rattle.serde_json.specs.View.{items_of}
@@ -11,8 +11,9 @@ use Rattle.worksheet.specs.declared.field.Answer.{Answer}
 use Rattle.worksheet.specs.declared.field.Field.{Field}
 use Rattle.sheet_notebook.specs.Empty.{shows_nothing}
 use Rattle.sheet_notebook.specs.Formulas.{formula_of}
-use Rattle.sheet_notebook.specs.Notebook.{answer_outputs, cell_of, error_data, has_parts, media_of, media_output, notebook, outputs_in, outputs_of, piece_outputs, picture_output, plain_bundle, result_of, own_output, stream_data, whole_output}
-use Rattle.sheet_notebook.specs.Pictures.{is_error_tag, is_output_tag, drawn_as, picture_of}
+use Rattle.sheet_notebook.specs.Notebook.{answer_outputs, cell_of, error_data, has_parts, media_of, media_output, notebook, outputs_in, outputs_of, part_output, picture_output, plain_bundle, result_of, own_output, stream_data, whole_output}
+use Rattle.sheet_notebook.specs.Parts.{Part, output_parts}
+use Rattle.sheet_notebook.specs.Pictures.{is_error_tag, drawn_as, picture_of}
 use Rattle.sheet_notebook.specs.Strings.{block_string, items_string}
 use Rattle.sheet_notebook.specs.declared.pictures.PictureKind.{PictureKind}
 use Rattle.sheet_notebook.specs.declared.pictures.PictureKind.TheVariants as kind
@@ -56,32 +57,30 @@ own_depth in_output b other e = go (is_error_tag in_output b.channel b.name)
     go true = omega arith
     go false = media_depth (picture_of b) (formula_of b) b.name other e
 
-parts_float : (in_output : Bool) (xs : Items) → items_have_float (items_of (piece_outputs in_output xs)) ≡ false
-parts_float in_output end = refl
-parts_float in_output (text t rest) = parts_float in_output rest
-parts_float in_output (block channel name inside rest) =
-    let b : Tree = record { channel = channel; name = name; items = inside } in
-    ap₂ (λ a b. a || b) (own_float in_output b (stream_data (block_string b)) refl) (parts_float in_output rest)
+parts_float : (ps : List Part) → items_have_float (items_of (map part_output ps)) ≡ false
+parts_float [] = refl
+parts_float ((in_output, text_piece t) ∷ rest) = parts_float rest
+parts_float ((in_output, block_piece b) ∷ rest) = ap₂ (λ a b. a || b) (own_float in_output b (stream_data (block_string b)) refl) (parts_float rest)
 
-parts_depth : (in_output : Bool) (xs : Items) → items_depth (items_of (piece_outputs in_output xs)) ≤ 2
-parts_depth in_output end = omega arith
-parts_depth in_output (text t rest) = max_within 1 _ 2 (omega arith) (parts_depth in_output rest)
-parts_depth in_output (block channel name inside rest) =
-    let b : Tree = record { channel = channel; name = name; items = inside } in
-    max_within _ _ 2 (own_depth in_output b (stream_data (block_string b)) (omega arith)) (parts_depth in_output rest)
+parts_depth : (ps : List Part) → items_depth (items_of (map part_output ps)) ≤ 2
+parts_depth [] = omega arith
+parts_depth ((in_output, text_piece t) ∷ rest) = max_within 1 _ 2 (omega arith) (parts_depth rest)
+parts_depth ((in_output, block_piece b) ∷ rest) = max_within _ _ 2 (own_depth in_output b (stream_data (block_string b)) (omega arith)) (parts_depth rest)
 
 answer_float : (b : Tree) → has_float (outputs_in b) ≡ false
+unfolding outputs_in
 answer_float b = go (has_parts b)
   where
-    go : (t : Bool) → has_float (cond t (array (items_of (piece_outputs (is_output_tag b.channel b.name) b.items))) (array (item (whole_output b) no_items))) ≡ false
-    go true = parts_float (is_output_tag b.channel b.name) b.items
+    go : (t : Bool) → has_float (cond t (array (items_of (map part_output (output_parts b)))) (array (item (whole_output b) no_items))) ≡ false
+    go true = parts_float (output_parts b)
     go false = ap (λ t. t || false) (own_float false b (result_of (plain_bundle b)) refl)
 
 answer_depth : (b : Tree) → depth (outputs_in b) ≤ 3
+unfolding outputs_in
 answer_depth b = go (has_parts b)
   where
-    go : (t : Bool) → depth (cond t (array (items_of (piece_outputs (is_output_tag b.channel b.name) b.items))) (array (item (whole_output b) no_items))) ≤ 3
-    go true = omega (arith, parts_depth (is_output_tag b.channel b.name) b.items)
+    go : (t : Bool) → depth (cond t (array (items_of (map part_output (output_parts b)))) (array (item (whole_output b) no_items))) ≤ 3
+    go true = omega (arith, parts_depth (output_parts b))
     go false = omega (arith, own_depth false b (result_of (plain_bundle b)) (omega arith))
 
 shown_float : (b : Tree) → has_float (answer_outputs b) ≡ false

@@ -1,6 +1,7 @@
 pub mod inside
 pub mod Formulas
 pub mod Pictures
+pub mod Parts
 pub mod Empty
 pub mod Laws
 pub mod Strings

@@ -1,7 +1,8 @@
 -- A worksheet as a notebook (nbformat 4.5), the members of each object in the order of their names.
-use Rattle.std.specs.Prelude.{ℕ, Bool, false, List, [], ◌∷◌, ◌++◌, ◌&&◌, ◌||◌, Option, Some, None, codes, cond, is_some, map, true, unwrap_or}
+use Rattle.std.specs.Prelude.{ℕ, Bool, false, List, ◌++◌, ◌&&◌, ◌||◌, Option, Some, None, codes, cond, is_some, map, true, unwrap_or}
 use Rattle.std.specs.Fmt.{decimal}
-use Rattle.block_tree.specs.Tree.{Items, Piece, Tree, block, block_piece, end, text, text_piece}
+use Rattle.std.specs.List.{list_any}
+use Rattle.block_tree.specs.Tree.{Tree, block_piece, text_piece}
 use Rattle.serde_json.specs.Data.{Data, null, number, string, array, object, unsigned, item, no_items, member, no_members}
 use Rattle.serde_json.specs.View.{items_of}
 use Rattle.serde_json.specs.Written.{compact_text}
@@ -12,7 +13,8 @@ use Rattle.sheet_text.specs.InputLines.{unfolded}
 use Rattle.sheet_text.specs.Blocks.{is_bare}
 use Rattle.sheet_notebook.specs.Empty.{shows_nothing}
 use Rattle.sheet_notebook.specs.Formulas.{formula_of}
-use Rattle.sheet_notebook.specs.Pictures.{is_error_tag, is_output_tag, drawn_as, picture_of}
+use Rattle.sheet_notebook.specs.Parts.{Part, output_parts}
+use Rattle.sheet_notebook.specs.Pictures.{is_error_tag, drawn_as, picture_of}
 use Rattle.sheet_notebook.specs.Strings.{block_string, items_string, string_of}
 use Rattle.sheet_notebook.specs.declared.pictures.PictureKind.{PictureKind}
 use Rattle.sheet_notebook.specs.declared.pictures.PictureKind.TheVariants as kind
@@ -74,45 +76,33 @@ abbrev pub own_output : Bool → Tree → Option Data
 own_output in_output b = cond (is_error_tag in_output b.channel b.name) (Some (error_data (items_string b.items))) (media_of b)
 
 -- such a one, or the block as text
-abbrev pub part_output : Bool → Tree → Data
-part_output in_output b = unwrap_or (own_output in_output b) (stream_data (block_string b))
+abbrev pub block_output : Bool → Tree → Data
+block_output in_output b = unwrap_or (own_output in_output b) (stream_data (block_string b))
 
-abbrev pub whole_output : Tree → Data
-whole_output b = unwrap_or (own_output false b) (result_of (plain_bundle b))
+-- what a part is as an output
+abbrev pub part_output : Part → Data
+part_output (in_output, text_piece t) = stream_data (string_of true t)
+part_output (in_output, block_piece b) = block_output in_output b
 
 -- whether a block is a picture or a formula
 abbrev pub is_media : Tree → Bool
 is_media b = is_some (picture_of b) || is_some (formula_of b)
 
--- whether an item is an error, a picture or a formula
-abbrev pub is_own_output : Bool → Piece → Bool
-is_own_output in_output (text_piece t) = false
-is_own_output in_output (block_piece b) = is_error_tag in_output b.channel b.name || is_media b
+-- whether a part is an error, a picture or a formula
+abbrev pub is_own_part : Part → Bool
+is_own_part (in_output, text_piece t) = false
+is_own_part (in_output, block_piece b) = is_error_tag in_output b.channel b.name || is_media b
 
--- whether one of these is
-abbrev pub has_own_output : Bool → Items → Bool
-has_own_output in_output end = false
-has_own_output in_output (text t rest) = has_own_output in_output rest
-has_own_output in_output (block channel name inside rest) = is_own_output in_output (block_piece (record { channel = channel; name = name; items = inside })) || has_own_output in_output rest
-
--- items, each as an output of its own
-abbrev pub piece_outputs : Bool → Items → List Data
-piece_outputs in_output end = []
-piece_outputs in_output (text t rest) = stream_data (string_of true t) ∷ piece_outputs in_output rest
-piece_outputs in_output (block channel name inside rest) = part_output in_output (record { channel = channel; name = name; items = inside }) ∷ piece_outputs in_output rest
-
--- what an item is as an output
-abbrev pub piece_output : Bool → Piece → Data
-piece_output in_output (text_piece t) = stream_data (string_of true t)
-piece_output in_output (block_piece b) = part_output in_output b
-
--- whether the items of a block are outputs of their own: they stand in it without a tag in braces, and one of them is more than text
+-- whether the parts of an output are outputs of their own: it has no tag in braces, and one of them is more than text
 abbrev pub has_parts : Tree → Bool
-has_parts b = is_bare b.channel b.name && has_own_output (is_output_tag b.channel b.name) b.items
+has_parts b = is_bare b.channel b.name && list_any is_own_part (output_parts b)
+
+abbrev pub whole_output : Tree → Data
+whole_output b = unwrap_or (own_output false b) (result_of (plain_bundle b))
 
 -- what an interpreter printed, showed and answered, in its order, or the output as one
-abbrev pub outputs_in : Tree → Data
-outputs_in b = cond (has_parts b) (array (items_of (piece_outputs (is_output_tag b.channel b.name) b.items))) (array (item (whole_output b) no_items))
+unfoldable pub outputs_in : Tree → Data
+outputs_in b = cond (has_parts b) (array (items_of (map part_output (output_parts b)))) (array (item (whole_output b) no_items))
 
 -- the outputs of an answer: none where it shows nothing
 abbrev pub answer_outputs : Tree → Data

@@ -1,2 +1,3 @@
 pub mod Adds
 pub mod Blank
+pub mod Outputs

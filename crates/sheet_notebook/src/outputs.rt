@@ -1,12 +1,14 @@
 //! An answer as outputs of a cell.
-ghost use Rattle.std.specs.Prelude.{◌≡◌, IfOk, map, option_map, string_bytes};
-ghost use Rattle.block_tree.specs.Tree.{items_from};
+ghost use Rattle.std.specs.Prelude.{◌≡◌, IfOk, OnOk, map, option_map, string_bytes};
+ghost use Rattle.std.specs.List.{list_any};
 ghost use Rattle.block_tree.specs.View.{piece_of, tree_of};
 ghost use Rattle.serde_json.specs.Data.{array};
 ghost use Rattle.serde_json.specs.View.{items_of, view};
 ghost use Rattle.sheet_notebook.specs.Notebook as notebook;
+ghost use Rattle.sheet_notebook.specs.Parts as part;
 ghost use Rattle.sheet_notebook.specs.Pictures.{drawn_as};
 ghost use Rattle.sheet_notebook.specs.Strings as shown;
+ghost use Rattle.sheet_notebook.specs.inside.Outputs.{AddsOutputs};
 
 use crate::formulas::formula_of_node;
 use crate::pictures::{PictureKind, is_error_tag, is_output_tag, picture_kind, picture_text};
@@ -153,9 +155,9 @@ fn own_output(alloc: Global, node: &Node, in_output: bool) -> Result<Option<Valu
 }
 
 /// The same, or the node as text.
-fn part_of(alloc: Global, node: &Node, in_output: bool) -> Result<Value, AllocError>
+fn node_output(alloc: Global, node: &Node, in_output: bool) -> Result<Value, AllocError>
     ensures { IfOk result
-        (λ value. view value ≡ notebook.part_output in_output (tree_of node.now)) }
+        (λ value. view value ≡ notebook.block_output in_output (tree_of node.now)) }
 {
     match own_output(alloc, node, in_output)? {
         Some(value) => Ok(value),
@@ -179,32 +181,33 @@ fn whole_output(alloc: Global, node: &Node) -> Result<Value, AllocError>
     }
 }
 
-/// An item as an output.
+/// A part as an output.
 #[tactic(auto, using(crate::proofs::Pieces::item_rules))]
-fn item_output(alloc: Global, item: &Item, in_output: bool) -> Result<Value, AllocError>
+fn part_output(alloc: Global, item: &Item, in_output: bool) -> Result<Value, AllocError>
     ensures { IfOk result
-        (λ value. view value ≡ notebook.piece_output in_output (piece_of item.now)) }
+        (λ value. view value ≡ notebook.part_output (in_output, piece_of item.now)) }
 {
     match item {
         Item::Text(text) => {
             let printed = string_of(alloc, text.as_slice(), true)?;
             stream_of(alloc, printed)
         }
-        Item::Block(inner) => part_of(alloc, inner, in_output),
+        Item::Block(inner) => node_output(alloc, inner, in_output),
     }
 }
 
 /// Whether a node is a picture or a formula.
+#[tactic(auto, using(crate::proofs::Pieces::item_rules))]
 fn is_media(node: &Node) -> bool
     ensures { result ≡ notebook.is_media (tree_of node.now) }
 {
     picture_text(node).is_some() || formula_of_node(node).is_some()
 }
 
-/// Whether an item is an error, a picture or a formula.
+/// Whether a part is an error, a picture or a formula.
 #[tactic(auto, using(crate::proofs::Pieces::item_rules))]
-fn is_own_output(item: &Item, in_output: bool) -> bool
-    ensures { result ≡ notebook.is_own_output in_output (piece_of item.now) }
+fn is_own_part(item: &Item, in_output: bool) -> bool
+    ensures { result ≡ notebook.is_own_part (in_output, piece_of item.now) }
 {
     match item {
         Item::Text(_) => false,
@@ -212,14 +215,15 @@ fn is_own_output(item: &Item, in_output: bool) -> bool
     }
 }
 
-/// Whether one of these items is.
+/// Whether one of these is, each as a part.
 #[tactic(auto, using(crate::proofs::Parts::part_steps))]
-fn has_own_output(items: &[Item], in_output: bool) -> bool
-    ensures { result ≡ notebook.has_own_output in_output (items_from (map piece_of items.now)) }
+fn any_own_part(items: &[Item], in_output: bool) -> bool
+    ensures { result
+        ≡ list_any notebook.is_own_part (part.parts_in in_output (map piece_of items.now)) }
 {
     let mut rest = items;
     while let Some((item, others)) = rest.split_first() {
-        if is_own_output(item, in_output) {
+        if is_own_part(item, in_output) {
             return true;
         }
         rest = others;
@@ -227,38 +231,111 @@ fn has_own_output(items: &[Item], in_output: bool) -> bool
     false
 }
 
-/// Items, each as an output of its own.
-#[tactic(auto, using(crate::proofs::Parts::part_steps))]
-fn piece_outputs(alloc: Global, items: &[Item], in_output: bool) -> Result<Value, AllocError>
-    ensures { IfOk result (λ value. view value
-        ≡ array (items_of (notebook.piece_outputs in_output (items_from
-        (map piece_of items.now))))) }
+/// Whether a block opens the channel of answers, in an output of another kind.
+fn opens_answer(node: &Node, in_output: bool) -> bool
+    ensures { result ≡ part.opens_answer in_output (tree_of node.now) }
 {
-    let mut parts = Vec::new(alloc);
-    let mut rest = items;
-    while let Some((item, others)) = rest.split_first() {
-        let part = item_output(alloc, item, in_output)?;
-        parts.push(part)?;
-        rest = others;
-    }
-    Ok(Value::Array(parts))
+    !in_output && is_output_tag(&node.tag)
 }
 
-/// Whether the items of a node are outputs of their own.
-#[tactic(auto, using(crate::proofs::Pieces::item_rules))]
+/// Whether an item has a part that is an output of its own.
+#[tactic(auto, using(crate::proofs::Parts::part_steps))]
+fn has_own_part(item: &Item, in_output: bool) -> bool
+    ensures { result
+        ≡ list_any notebook.is_own_part (part.parts_at in_output (piece_of item.now)) }
+{
+    match item {
+        Item::Text(_) => false,
+        Item::Block(inner) => {
+            if opens_answer(inner, in_output) {
+                any_own_part(inner.items.as_slice(), true)
+            } else {
+                is_own_part(item, in_output)
+            }
+        }
+    }
+}
+
+/// Whether the parts of a node are outputs of their own.
+#[tactic(auto, using(crate::proofs::Parts::part_steps))]
 fn has_parts(node: &Node) -> bool
     ensures { result ≡ notebook.has_parts (tree_of node.now) }
 {
-    is_bare_tag(&node.tag) && has_own_output(node.items.as_slice(), is_output_tag(&node.tag))
+    let in_output = is_output_tag(&node.tag);
+    let mut rest = node.items.as_slice();
+    while let Some((item, others)) = rest.split_first() {
+        if has_own_part(item, in_output) {
+            return is_bare_tag(&node.tag);
+        }
+        rest = others;
+    }
+    false
+}
+
+/// Adds items as outputs, each as a part.
+#[tactic(auto, using(crate::proofs::Parts::part_steps))]
+fn push_parts(
+    alloc: Global,
+    items: &[Item],
+    in_output: bool,
+    outputs: &mut Vec<Value>,
+) -> Result<(), AllocError>
+    ensures { OnOk result (AddsOutputs outputs.old.items outputs.new.items
+        (part.parts_in in_output (map piece_of items.now))) }
+{
+    let mut rest = items;
+    while let Some((item, others)) = rest.split_first() {
+        outputs.push(part_output(alloc, item, in_output)?)?;
+        rest = others;
+    }
+    Ok(())
+}
+
+/// Adds the parts of an item as outputs.
+#[tactic(auto, using(crate::proofs::Parts::part_steps))]
+fn push_item(
+    alloc: Global,
+    item: &Item,
+    in_output: bool,
+    outputs: &mut Vec<Value>,
+) -> Result<(), AllocError>
+    ensures { OnOk result (AddsOutputs outputs.old.items outputs.new.items
+        (part.parts_at in_output (piece_of item.now))) }
+{
+    match item {
+        Item::Block(inner) if opens_answer(inner, in_output) => {
+            push_parts(alloc, inner.items.as_slice(), true, outputs)
+        }
+        _ => {
+            outputs.push(part_output(alloc, item, in_output)?)?;
+            Ok(())
+        }
+    }
+}
+
+/// The parts of a node, each as an output of its own.
+#[tactic(auto, using(crate::proofs::Parts::part_steps))]
+fn part_outputs(alloc: Global, node: &Node) -> Result<Value, AllocError>
+    ensures { IfOk result (λ value. view value
+        ≡ array (items_of (map notebook.part_output (part.output_parts (tree_of node.now))))) }
+{
+    let in_output = is_output_tag(&node.tag);
+    let mut outputs = Vec::new(alloc);
+    let mut rest = node.items.as_slice();
+    while let Some((item, others)) = rest.split_first() {
+        push_item(alloc, item, in_output, &mut outputs)?;
+        rest = others;
+    }
+    Ok(Value::Array(outputs))
 }
 
 /// What an interpreter printed, showed and answered, in its order, or the output as one.
-#[tactic(auto, using(crate::proofs::Pieces::item_rules))]
+#[tactic(auto, unfolding(crate::specs::Notebook::outputs_in))]
 pub(crate) fn outputs_in(alloc: Global, node: &Node) -> Result<Value, AllocError>
     ensures { IfOk result (λ value. view value ≡ notebook.outputs_in (tree_of node.now)) }
 {
     if has_parts(node) {
-        return piece_outputs(alloc, node.items.as_slice(), is_output_tag(&node.tag));
+        return part_outputs(alloc, node);
     }
     let whole = whole_output(alloc, node)?;
     json!(in alloc; [whole])

@@ -3,21 +3,21 @@ use Rattle.std.specs.Prelude.{ℕ, List, Option, Some, None, codes}
 use Rattle.journal.specs.declared.opening.OpenCause.{OpenCause}
 use Rattle.journal.specs.declared.opening.OpenCause.TheVariants as opens
 use Rattle.host_events.specs.declared.outcome.HostFault.{HostFault}
-use Rattle.host_events.specs.declared.outcome.HostFault.TheVariants as host
+use Rattle.host_events.specs.declared.outcome.HostFault.TheVariants as hosts
 use Rattle.offline_programs.specs.declared.fault.RunFault.{RunFault}
 use Rattle.offline_programs.specs.declared.fault.RunFault.TheVariants as fault
 
 abbrev pub host_fault_number : HostFault → ℕ
-host_fault_number host.Closed = 20
-host_fault_number host.Disk = 21
-host_fault_number host.OutOfMemory = 22
-host_fault_number host.JournalFull = 23
+host_fault_number hosts.Closed = 20
+host_fault_number hosts.Disk = 21
+host_fault_number hosts.OutOfMemory = 22
+host_fault_number hosts.JournalFull = 23
 
 abbrev pub host_fault_name : HostFault → List ℕ
-host_fault_name host.Closed = codes "Closed"
-host_fault_name host.Disk = codes "Disk"
-host_fault_name host.OutOfMemory = codes "OutOfMemory"
-host_fault_name host.JournalFull = codes "JournalFull"
+host_fault_name hosts.Closed = codes "Closed"
+host_fault_name hosts.Disk = codes "Disk"
+host_fault_name hosts.OutOfMemory = codes "OutOfMemory"
+host_fault_name hosts.JournalFull = codes "JournalFull"
 
 abbrev pub open_fault_number : OpenCause → ℕ
 open_fault_number (opens.Damaged gate) = 30

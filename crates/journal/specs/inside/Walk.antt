@@ -5,7 +5,7 @@ use Rattle.journal.specs.Area.{HasHeader, open_gate}
 use Rattle.journal.specs.Damage.{IsBroken}
 use Rattle.journal.specs.Limits.{longest_payload}
 use Rattle.journal.specs.declared.opening.OpenCause.{OpenCause}
-use Rattle.journal.specs.declared.opening.OpenCause.TheVariants as causes
+use Rattle.journal.specs.declared.opening.OpenCause.TheVariants as opens
 use Rattle.journal.specs.declared.walk.GateContent.{GateContent}
 use Rattle.journal.specs.declared.walk.GateContent.TheVariants.{End, Broken, Record}
 
@@ -25,7 +25,7 @@ IsLength left step = Unit {0}
 
 -- what a cause says of one area, of which the header was read
 abbrev pub LacksHeader : List ℕ → OpenCause → Type 0
-LacksHeader bytes (causes.Damaged gate) = ⊥
-LacksHeader bytes causes.NotASheet = HasHeader bytes → ⊥
-LacksHeader bytes causes.Disk = Unit {0}
-LacksHeader bytes causes.OutOfMemory = Unit {0}
+LacksHeader bytes (opens.Damaged gate) = ⊥
+LacksHeader bytes opens.NotASheet = HasHeader bytes → ⊥
+LacksHeader bytes opens.Disk = Unit {0}
+LacksHeader bytes opens.OutOfMemory = Unit {0}

@@ -5,7 +5,7 @@ use Rattle.disk_model.specs.declared.disk.Area.TheVariants.{First}
 use Rattle.journal.specs.Kept.{EitherStands}
 use Rattle.journal.specs.declared.journal.OpenFault.{OpenFault}
 use Rattle.journal.specs.declared.opening.OpenCause.{OpenCause}
-use Rattle.journal.specs.declared.opening.OpenCause.TheVariants as causes
+use Rattle.journal.specs.declared.opening.OpenCause.TheVariants as opens
 use Rattle.worksheet.specs.Contents.{SheetView}
 use Rattle.worksheet.specs.declared.op.Op.{Op}
 use Rattle.worksheet.specs.Ops.{sheet_of}
@@ -28,10 +28,10 @@ IsBeingLaid s payloads i = Reaches (ChangesArea First (Torn 0 11)) s i ⊎ Eithe
 -- where a payload is refused, what was taken before is kept, and its gate is named; any other cause is
 -- a fault
 abbrev pub Stops : {D : Type 0} → D → SheetView → ℕ → OpenCause → Result (Rescued D) (OpenFault D) → Type 0
-Stops disk sheet kept (causes.Damaged gate) result = result ≡ Ok (record { disk = disk; sheet = sheet; kept = kept; damage = Some gate })
-Stops disk sheet kept causes.NotASheet result = result ≡ Err (record { cause = causes.NotASheet; disk = disk })
-Stops disk sheet kept causes.Disk result = result ≡ Err (record { cause = causes.Disk; disk = disk })
-Stops disk sheet kept causes.OutOfMemory result = result ≡ Err (record { cause = causes.OutOfMemory; disk = disk })
+Stops disk sheet kept (opens.Damaged gate) result = result ≡ Ok (record { disk = disk; sheet = sheet; kept = kept; damage = Some gate })
+Stops disk sheet kept opens.NotASheet result = result ≡ Err (record { cause = opens.NotASheet; disk = disk })
+Stops disk sheet kept opens.Disk result = result ≡ Err (record { cause = opens.Disk; disk = disk })
+Stops disk sheet kept opens.OutOfMemory result = result ≡ Err (record { cause = opens.OutOfMemory; disk = disk })
 
 -- why a creation was refused, as a cause of what is written
 abbrev pub created_cause : CreateCause → SaveCause

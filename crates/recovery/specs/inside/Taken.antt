@@ -9,7 +9,7 @@ use Rattle.journal.specs.Kept.{JournalView, Keeps}
 use Rattle.journal.specs.declared.journal.OpenFault.{OpenFault}
 use Rattle.journal.specs.declared.walk.Payload.{Payload}
 use Rattle.journal.specs.declared.opening.OpenCause.{OpenCause}
-use Rattle.journal.specs.declared.opening.OpenCause.TheVariants as causes
+use Rattle.journal.specs.declared.opening.OpenCause.TheVariants as opens
 use Rattle.recovery.specs.Code.{code_of, IsPayloadOf}
 use Rattle.recovery.specs.Sheets.{codes_of, Makes, IsRefusedAt}
 
@@ -21,18 +21,18 @@ pub record TakesOps (ops : List Op) (payload : List ℕ) (sheet : Contents) : Ty
 
 -- the payload is of no op that is allowed after these, and its gate is named
 abbrev pub Refuses : List Op → Payload → OpenCause → Type 0
-Refuses ops p (causes.Damaged gate) =
+Refuses ops p (opens.Damaged gate) =
     (gate ≡ p.gate) × ((o : Op) → IsPayloadOf o p.bytes → first_refusal (sheet_of ops) o ≡ None → ⊥)
-Refuses ops p causes.NotASheet = ⊥
-Refuses ops p causes.Disk = ⊥
-Refuses ops p causes.OutOfMemory = Unit {0}
+Refuses ops p opens.NotASheet = ⊥
+Refuses ops p opens.Disk = ⊥
+Refuses ops p opens.OutOfMemory = Unit {0}
 
 -- the gate of the first payload that is refused, or a cause that isn't in the payloads
 abbrev pub RefusesFrom : List (List ℕ) → OpenCause → Type 0
-RefusesFrom payloads (causes.Damaged gate) = IsRefusedAt payloads gate
-RefusesFrom payloads causes.NotASheet = ⊥
-RefusesFrom payloads causes.Disk = Unit {0}
-RefusesFrom payloads causes.OutOfMemory = Unit {0}
+RefusesFrom payloads (opens.Damaged gate) = IsRefusedAt payloads gate
+RefusesFrom payloads opens.NotASheet = ⊥
+RefusesFrom payloads opens.Disk = Unit {0}
+RefusesFrom payloads opens.OutOfMemory = Unit {0}
 
 -- the disk that taking all payloads leaves
 abbrev pub disk_taken : {D T : Type 0} → (D → DiskView) → Result (JournalView × T) (OpenFault D)

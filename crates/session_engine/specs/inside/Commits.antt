@@ -14,7 +14,7 @@ use Rattle.recovery.specs.declared.fault.CommitFault.{CommitFault}
 use Rattle.recovery.specs.declared.fault.CommitFault.TheVariants as commits
 use Rattle.recovery.specs.Sheets.{StoreView, IsSheetImage, IsEither, SameStore}
 use Rattle.host_events.specs.declared.outcome.HostFault.{HostFault}
-use Rattle.host_events.specs.declared.outcome.HostFault.TheVariants as faults
+use Rattle.host_events.specs.declared.outcome.HostFault.TheVariants as hosts
 use Rattle.std.specs.List.{AllByRecursion}
 use Rattle.plugin_core.specs.declared.item.Item.{Item}
 use Rattle.plugin_core.specs.declared.item.Item.TheVariants as item
@@ -78,9 +78,9 @@ IsEitherIf ops (Some o) i = IsEither ops o i
 
 -- why an op that was to be kept isn't
 pub data NotKept (old new : StoreView) : Option Op → HostFault → Type 0 where
-  unkept_on_disk : (o : Op) → new.sheet.contents ≡ old.sheet.contents → Rises old.disk.faults new.disk.faults → NotKept old new (Some o) faults.Disk
-  unkept_in_memory : (o : Op) → SameStore old new → NotKept old new (Some o) faults.OutOfMemory
-  unkept_in_room : (o : Op) → SameStore old new → fits_in old.disk.room old.end o ≡ false → NotKept old new (Some o) faults.JournalFull
+  unkept_on_disk : (o : Op) → new.sheet.contents ≡ old.sheet.contents → Rises old.disk.faults new.disk.faults → NotKept old new (Some o) hosts.Disk
+  unkept_in_memory : (o : Op) → SameStore old new → NotKept old new (Some o) hosts.OutOfMemory
+  unkept_in_room : (o : Op) → SameStore old new → fits_in old.disk.room old.end o ≡ false → NotKept old new (Some o) hosts.JournalFull
 
 -- Lines that are lost.
 

@@ -4,7 +4,7 @@ use Rattle.std.specs.List.{list_any}
 use Rattle.host_events.specs.declared.event.Event.{Event}
 use Rattle.host_events.specs.declared.outcome.Outcome.{Outcome}
 use Rattle.session_engine.specs.declared.play.PlayFault.{PlayFault}
-use Rattle.session_engine.specs.declared.play.PlayFault.TheVariants as stop
+use Rattle.session_engine.specs.declared.play.PlayFault.TheVariants as halt
 use Rattle.session_engine.specs.declared.play.GroupFault.{GroupFault}
 use Rattle.session_engine.specs.World.{World}
 use Rattle.session_engine.specs.Host.{HostView}
@@ -24,8 +24,8 @@ pub record PlayedBy (up_to : Bool) (w : World) (events : List Event) (reported :
 
 -- none of the outcomes before a fault is a refusal
 abbrev pub NoneRefused : PlayFault → Type 0
-NoneRefused (stop.NoRoom back) = Unit {0}
-NoneRefused (stop.Stopped outcomes fault) = list_any is_refusal outcomes.items ≡ false
+NoneRefused (halt.NoRoom back) = Unit {0}
+NoneRefused (halt.Stopped outcomes fault) = list_any is_refusal outcomes.items ≡ false
 
 abbrev pub TookBy : Bool → World → List Event → List Outcome → HostView → HostView → Type 0
 TookBy false w events reported old new = TookGroup w events reported old new

@@ -5,7 +5,7 @@ use Rattle.worksheet.specs.declared.refusal.Refusal.TheVariants as refusal
 use Rattle.plugin_core.specs.declared.step.Answered.{Answered}
 use Rattle.session_engine.specs.Does.{op_by}
 use Rattle.session_engine.specs.inside.Commits.{IsEitherIf, NotCommitted, NotKept, NotLost, unkept_in_memory, unkept_in_room, unkept_on_disk}
-use Rattle.host_events.specs.declared.outcome.HostFault.TheVariants as faults
+use Rattle.host_events.specs.declared.outcome.HostFault.TheVariants as hosts
 use Rattle.session_engine.proofs.Losing.{refused_room, unkept_for_disk, unkept_for_memory}
 use Rattle.session_engine.proofs.commits.keep.Goals as goal
 
@@ -21,45 +21,45 @@ returns-in-Some-Line-clause-moments g c = λ model ops is.
 
 pub returns-in-Err-OutOfMemory-clause-fault : goal.returns-in-Err-OutOfMemory-clause-fault
 returns-in-Err-OutOfMemory-clause-fault g c =
-    subst (λ (a : Option Answered). NotKept c.args.store.now c.lose_at_end.new.store (op_by c.args.store.now.disk.room c.args.store.now.end a c.args.ended.now) faults.OutOfMemory)
+    subst (λ (a : Option Answered). NotKept c.args.store.now c.lose_at_end.new.store (op_by c.args.store.now.disk.room c.args.store.now.end a c.args.ended.now) hosts.OutOfMemory)
     (sym c.in-None.is)
     (unkept_for_memory c.args.store.now c.lose_at_end.new.store _ (subst (NotLost c.args.store.now c.lose_at_end.new.store _) c.in-Err-OutOfMemory.field-0-is c.in-Err-OutOfMemory.ensures.fault))
 
 pub returns-in-None-clause-fault : goal.returns-in-None-clause-fault
 returns-in-None-clause-fault g c =
-    subst (λ (a : Option Answered). NotKept c.args.store.now c.lose_at_end.new.store (op_by c.args.store.now.disk.room c.args.store.now.end a c.args.ended.now) faults.Disk)
+    subst (λ (a : Option Answered). NotKept c.args.store.now c.lose_at_end.new.store (op_by c.args.store.now.disk.room c.args.store.now.end a c.args.ended.now) hosts.Disk)
     (sym c.in-None.is)
     (unkept_for_disk c.args.store.now c.lose_at_end.new.store _ (subst (NotLost c.args.store.now c.lose_at_end.new.store _) c.in-Err-Disk.field-0-is c.in-Err-Disk.ensures.fault))
 
 pub returns-in-Err-OutOfMemory-lose_at_end-clause-fault : goal.returns-in-Err-OutOfMemory-lose_at_end-clause-fault
 returns-in-Err-OutOfMemory-lose_at_end-clause-fault g c =
-    subst (λ (a : Option Answered). NotKept c.args.store.now c.lose_at_end-in-Some-Banner.new.store (op_by c.args.store.now.disk.room c.args.store.now.end a c.args.ended.now) faults.OutOfMemory)
+    subst (λ (a : Option Answered). NotKept c.args.store.now c.lose_at_end-in-Some-Banner.new.store (op_by c.args.store.now.disk.room c.args.store.now.end a c.args.ended.now) hosts.OutOfMemory)
     (sym (c.in-Some-Banner.is ∙ ap (λ (a : Answered). Some a) c.in-Some-Banner.field-0-is))
     (unkept_for_memory c.args.store.now c.lose_at_end-in-Some-Banner.new.store _ (subst (NotLost c.args.store.now c.lose_at_end-in-Some-Banner.new.store _) c.in-Err-OutOfMemory-lose_at_end.field-0-is c.in-Err-OutOfMemory-lose_at_end.ensures.fault))
 
 pub returns-in-Some-Banner-clause-fault : goal.returns-in-Some-Banner-clause-fault
 returns-in-Some-Banner-clause-fault g c =
-    subst (λ (a : Option Answered). NotKept c.args.store.now c.lose_at_end-in-Some-Banner.new.store (op_by c.args.store.now.disk.room c.args.store.now.end a c.args.ended.now) faults.Disk)
+    subst (λ (a : Option Answered). NotKept c.args.store.now c.lose_at_end-in-Some-Banner.new.store (op_by c.args.store.now.disk.room c.args.store.now.end a c.args.ended.now) hosts.Disk)
     (sym (c.in-Some-Banner.is ∙ ap (λ (a : Answered). Some a) c.in-Some-Banner.field-0-is))
     (unkept_for_disk c.args.store.now c.lose_at_end-in-Some-Banner.new.store _ (subst (NotLost c.args.store.now c.lose_at_end-in-Some-Banner.new.store _) c.in-Err-Disk-lose_at_end.field-0-is c.in-Err-Disk-lose_at_end.ensures.fault))
 
 pub returns-in-Ok-Some-JournalFull-clause-fault : goal.returns-in-Ok-Some-JournalFull-clause-fault
 returns-in-Ok-Some-JournalFull-clause-fault g c =
     let n : NotCommitted c.args.store.now (op.Answer c.in-Some-Line.id c.in-Some-Line.prompt c.in-Some-Line.output) c.commit.new.store refusal.JournalFull = search rules in
-    subst (λ (a : Option Answered). NotKept c.args.store.now c.commit.new.store (op_by c.args.store.now.disk.room c.args.store.now.end a c.args.ended.now) faults.JournalFull)
+    subst (λ (a : Option Answered). NotKept c.args.store.now c.commit.new.store (op_by c.args.store.now.disk.room c.args.store.now.end a c.args.ended.now) hosts.JournalFull)
     (sym (c.in-Some-Line.is ∙ ap (λ (a : Answered). Some a) c.in-Some-Line.field-0-is))
     (unkept_in_room (op.Answer c.in-Some-Line.id c.in-Some-Line.prompt c.in-Some-Line.output) n.same (refused_room c.args.store.now c.commit.new.store (op.Answer c.in-Some-Line.id c.in-Some-Line.prompt c.in-Some-Line.output) n))
 
 pub returns-in-Ok-Some-clause-fault : goal.returns-in-Ok-Some-clause-fault
 returns-in-Ok-Some-clause-fault g c =
     let n : NotCommitted c.args.store.now (op.Answer c.in-Some-Line.id c.in-Some-Line.prompt c.in-Some-Line.output) c.commit.new.store c.in-Ok-Some.field-0-0 = search rules in
-    subst (λ (a : Option Answered). NotKept c.args.store.now c.commit.new.store (op_by c.args.store.now.disk.room c.args.store.now.end a c.args.ended.now) faults.OutOfMemory)
+    subst (λ (a : Option Answered). NotKept c.args.store.now c.commit.new.store (op_by c.args.store.now.disk.room c.args.store.now.end a c.args.ended.now) hosts.OutOfMemory)
     (sym (c.in-Some-Line.is ∙ ap (λ (a : Answered). Some a) c.in-Some-Line.field-0-is))
     (unkept_in_memory (op.Answer c.in-Some-Line.id c.in-Some-Line.prompt c.in-Some-Line.output) n.same)
 
 pub returns-in-Some-Line-clause-fault : goal.returns-in-Some-Line-clause-fault
 returns-in-Some-Line-clause-fault g c =
-    subst (λ (a : Option Answered). NotKept c.args.store.now c.commit.new.store (op_by c.args.store.now.disk.room c.args.store.now.end a c.args.ended.now) faults.Disk)
+    subst (λ (a : Option Answered). NotKept c.args.store.now c.commit.new.store (op_by c.args.store.now.disk.room c.args.store.now.end a c.args.ended.now) hosts.Disk)
     (sym (c.in-Some-Line.is ∙ ap (λ (a : Answered). Some a) c.in-Some-Line.field-0-is))
     (unkept_on_disk (op.Answer c.in-Some-Line.id c.in-Some-Line.prompt c.in-Some-Line.output) c.in-Err.ensures.err.0 c.in-Err.ensures.err.1)
 

@@ -1,9 +1,9 @@
 use Rattle.std.proofs.Common.{length}
-use Rattle.sheet_notebook.proofs.Parts.{Made}
-use Rattle.sheet_notebook.proofs.outputs.piece_outputs.Given as goal
+use Rattle.sheet_notebook.proofs.Parts.{Decides}
+use Rattle.sheet_notebook.proofs.outputs.has_parts.Given as goal
 
 abbrev pub invariant-loop-item : goal.invariant-loop-item
-invariant-loop-item l = Made l.in_output l.parts.items l.rest l.items
+invariant-loop-item l = Decides l.node l.in_output l.rest
 
 abbrev pub decreases-loop-item : goal.decreases-loop-item
 decreases-loop-item l = length l.rest
