@@ -53,9 +53,9 @@ impl Chosen {
         ensures all { result.all ≡ false }
     {
         Chosen {
-            only: Option::None,
+            only: None,
             left_out: Sequence::new(alloc),
-            compared: Option::None,
+            compared: None,
             all: false,
         }
     }

@@ -39,11 +39,11 @@ pub(crate) fn case_in_memory(alloc: Global, case: &Case<'_>) -> Option<Vec<u8>>
         ≡ telling_line (telling_of (case_in case.now))) }
 {
     let Ok(value) = case_value(alloc, case) else {
-        return Option::None;
+        return None;
     };
     match reported_bytes(alloc, &value) {
         Ok(line) => Some(line),
-        Err(_) => Option::None,
+        Err(_) => None,
     }
 }
 

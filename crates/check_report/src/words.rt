@@ -33,11 +33,11 @@ pub(crate) fn outputs_in_memory(
     ensures came { IfSome result (λ both. both.came.items ≡ brief_lines came.now lost) }
 {
     let Some(shown) = brief_in_memory(alloc, &field.answer, field.lost) else {
-        return Option::None;
+        return None;
     };
     match brief_in_memory(alloc, came, lost) {
         Some(came) => Some(OutputPair { shown, came }),
-        None => Option::None,
+        None => None,
     }
 }
 
@@ -125,15 +125,15 @@ fn change_in_memory(
     ensures { IfSome result (λ text. text.items ≡ printed.change_text field.now came.now lost) }
 {
     let Some(both) = outputs_in_memory(alloc, field, came, lost) else {
-        return Option::None;
+        return None;
     };
     let Some(hunk) = find_hunk(alloc, both.shown.as_slice(), both.came.as_slice()) else {
-        return Option::None;
+        return None;
     };
     let mut text = Vec::new(alloc);
     match write_change(field, &both, hunk, &mut text) {
         Ok(()) => Some(text),
-        Err(_) => Option::None,
+        Err(_) => None,
     }
 }
 
@@ -147,7 +147,7 @@ fn difference_in_memory(
     ensures { IfSome result (λ text. text.items ≡ printed.difference_text field.now came.now lost) }
 {
     let Some(both) = outputs_in_memory(alloc, field, came, lost) else {
-        return Option::None;
+        return None;
     };
     let mut text = Vec::new(alloc);
     match write_difference(
@@ -157,7 +157,7 @@ fn difference_in_memory(
         &mut text,
     ) {
         Ok(()) => Some(text),
-        Err(_) => Option::None,
+        Err(_) => None,
     }
 }
 
@@ -186,12 +186,12 @@ fn addition_in_memory(
     ensures { IfSome result (λ text. text.items ≡ printed.new_text field.now came.now lost) }
 {
     let Some(came) = brief_in_memory(alloc, came, lost) else {
-        return Option::None;
+        return None;
     };
     let mut text = Vec::new(alloc);
     match write_addition(field, came.as_slice(), &mut text) {
         Ok(()) => Some(text),
-        Err(_) => Option::None,
+        Err(_) => None,
     }
 }
 
@@ -229,7 +229,7 @@ fn with_accepted(text: Vec<u8>, id: u32) -> Option<Vec<u8>>
     let mut text = text;
     match write_accepted(id, &mut text) {
         Ok(()) => Some(text),
-        Err(_) => Option::None,
+        Err(_) => None,
     }
 }
 
@@ -250,11 +250,11 @@ pub fn acceptance_in_memory(
         Verdict::Unanswered => difference_in_memory(alloc, field, came, lost),
         Verdict::Differs => match change_in_memory(alloc, field, came, lost) {
             Some(text) => with_accepted(text, field.id),
-            None => Option::None,
+            None => None,
         },
         Verdict::New => match addition_in_memory(alloc, field, came, lost) {
             Some(text) => with_accepted(text, field.id),
-            None => Option::None,
+            None => None,
         },
     }
 }

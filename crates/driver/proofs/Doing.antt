@@ -33,7 +33,7 @@ use Rattle.driver.specs.declared.action.Action.{Action}
 use Rattle.driver.specs.Reports.{TurnCame, Report, interrupt_came, printed_text}
 use Rattle.driver.specs.Items.{Item, after_fault, ask, chose, halt, hear, heard, heed, heeded, interrupt, interrupted, items_by, join, notes, print, print_fault, printed, printed_fault, printing, rewrite, rewrote, stall, stalled, stalls, take, took, watch, watched}
 use Rattle.driver.specs.Hearing.{HeardReady}
-use Rattle.driver.specs.Place.{RunPlace, Rules, Tries}
+use Rattle.driver.specs.Place.{RunPlace, Rules, Tries, TriesLast}
 use Rattle.driver.specs.Steps.{Fails, Goes, Run, asks, broken, fault_at_gate, hears, heeds, interrupts, lost, most_together, prints, prints_fault, rewrites, stalls_all, takes, too_many, uncounted, unheard, unnumbered, unprinted, unsaid, unstalled, untaken, unwatched, unwritten, watches}
 use Rattle.driver.specs.Runs.{DidSteps, Parts, again, again_by, left_at_end, left_by_answer, lost_there, parts, seen, stopped, works}
 use Rattle.driver.proofs.Running.{did_break, did_more, did_one, run_join}
@@ -180,7 +180,7 @@ module _ {A C K : Type 0} (R : Rules A C K) (p : RunPlace A C K) (todo : List It
   pub sink_failed : {T : Type 0} (left : T → List Item) (now : ℕ × Parts A C K) → DidSteps R p todo (left_by_answer left) (Err fault.Output) now → DidSteps {T = T} R p todo left_at_end (Err fault.Output) now
   sink_failed left now d = record { steps = d.steps; world = d.world; ran = d.ran; stands = d.stands }
 
-  pub did_print_fault : {T : Type 0} (left : T → List Item) (why : RunFault) (n : ℕ) (h : HostView) (c : C) (k l : K) (a : A) (whole : Bool) → (why ≡ fault.Output → ⊥) → Tries R.sink k h.store.disk (R.sink.voice.fault why) whole l
+  pub did_print_fault : {T : Type 0} (left : T → List Item) (why : RunFault) (n : ℕ) (h : HostView) (c : C) (k l : K) (a : A) (whole : Bool) → (why ≡ fault.Output → ⊥) → TriesLast R.sink k h.store.disk (R.sink.voice.fault why) whole l
       → DidSteps R p todo (left_by_answer left) (Err why) (n, parts h c k a) → DidSteps {T = T} R p todo left_at_end (Err why) (n, parts h c l a)
   did_print_fault left why n h c k l a whole other tries d = record {
     steps = d.steps ++ printed_fault why whole ∷ [];

@@ -23,4 +23,6 @@ module _ {A C T W : Type 0} (S : AgendaRules A) (s : SourceRules C) (V : Voice) 
   over_on_stream first last answer o =
       over_seen (rules S s given_sink) S (λ (k : PrintedSoFar). k.text) (λ (k : PrintedSoFar) (disk : DiskView) (text : List ℕ) (whole : Bool) (l : PrintedSoFar). held k.text disk × (l.whole ≡ whole))
       (λ (a : A). a) (λ (k : Noting (Voiced T W)). printed_so_far (contents k.sink.writer) k.whole)
-      (λ a w n r b said. said) (λ a w b reported. reported) (λ a w n c note b heeds. heeds) (λ a w first more b joins. joins) (λ k d text whole l t. record { tried = t.tried; appends = t.appends }) (λ k d text why l t. record { tried = t.tried; cut = t.cut }) first last answer o
+      (λ a w n r b said. said) (λ a w b reported. reported) (λ a w n c note b heeds. heeds) (λ a w first more b joins. joins) (λ k d text whole l t. record { tried = t.tried; appends = t.appends })
+      (λ k d text whole l t. record { tries = record { tried = t.tries.tried; appends = t.tries.appends }; front = t.front })
+      (λ k d text why l t. record { tried = t.tried; cut = t.cut }) first last answer o

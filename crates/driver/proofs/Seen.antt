@@ -13,7 +13,7 @@ use Rattle.offline_programs.specs.declared.fault.RunFault.{RunFault}
 use Rattle.driver.specs.declared.action.Action.{Action}
 use Rattle.driver.specs.Reports.{TurnCame, printed_text}
 use Rattle.driver.specs.Items.{Item, RunStep}
-use Rattle.driver.specs.Place.{AgendaRules, RunPlace, Rules, Tries, TriesInVain, rules, sink_rules}
+use Rattle.driver.specs.Place.{AgendaRules, RunPlace, Rules, Tries, TriesInVain, TriesLast, rules, sink_rules}
 use Rattle.driver.specs.Steps.{Fails, Goes, Run}
 use Rattle.driver.specs.Steps as step
 use Rattle.driver.specs.Over.{Over, ProgramParts, not_opened, ran_over}
@@ -24,6 +24,7 @@ module _ {A B C K L : Type 0} (R : Rules A C K) (S : AgendaRules B) (written : L
     (heeds : (a : A) (w : World) (n : ℕ) (c : TurnCame) (note : Option Note) (b : A) → R.agenda.heeds a w n c note b → S.heeds (f a) w n c note (f b))
     (joins : (a : A) (w : World) (first : Option ℕ) (more : List Event) (b : A) → R.agenda.joins a w first more b → S.joins (f a) w first more (f b))
     (tries : (k : K) (d : DiskView) (text : List ℕ) (whole : Bool) (l : K) → Tries R.sink k d text whole l → Tries (sink_rules R.sink.voice written tried) (g k) d text whole (g l))
+    (last : (k : K) (d : DiskView) (text : List ℕ) (whole : Bool) (l : K) → TriesLast R.sink k d text whole l → TriesLast (sink_rules R.sink.voice written tried) (g k) d text whole (g l))
     (in_vain : (k : K) (d : DiskView) (text : List ℕ) (why : RunFault) (l : K) → TriesInVain R.sink k d text why l → TriesInVain (sink_rules R.sink.voice written tried) (g k) d text why (g l)) where
   abbrev pub seen_rules : Rules B C L
   seen_rules = rules S R.sources (sink_rules R.sink.voice written tried)
@@ -88,7 +89,7 @@ module _ {A B C K L : Type 0} (R : Rules A C K) (S : AgendaRules B) (written : L
   step_seen p q todo next s (step.prints t k rest went) = step.prints t (g k) rest (tries p.sink p.disk (printed_text R.sink.voice p.world t) true k went)
   step_seen p q todo next s (step.heeds c now n a rest clock h) = step.heeds c now n (f a) rest clock (heeds p.agenda p.world now c n a h)
   step_seen p q todo next s (step.breaks i entries why there rest fails) = step.breaks i entries why (seen_place there) rest (fails_seen p there i entries why fails)
-  step_seen p q todo next s (step.prints_fault why whole k went) = step.prints_fault why whole (g k) (tries p.sink p.disk (R.sink.voice.fault why) whole k went)
+  step_seen p q todo next s (step.prints_fault why whole k went) = step.prints_fault why whole (g k) (last p.sink p.disk (R.sink.voice.fault why) whole k went)
 
   pub run_seen : (p q : RunPlace A C K) (todo left : List Item) (steps : List RunStep) → Run R p todo steps left q → Run seen_rules (seen_place p) todo steps left (seen_place q)
   run_seen p q todo left [] r = (r.0, ap seen_place r.1)

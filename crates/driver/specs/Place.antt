@@ -7,7 +7,7 @@ use Rattle.session_engine.specs.Joining.{JoinRule}
 use Rattle.child_edge.specs.Faithful.{At, Relation, at}
 use Rattle.arrivals.specs.Watching.{Asked}
 use Rattle.arrivals.specs.declared.sources.Woken.{Woken}
-use Rattle.tellings.specs.Voice.{CutShort, Voice}
+use Rattle.tellings.specs.Voice.{CutShort, Voice, WroteFront}
 use Rattle.tellings.specs.declared.note.Note.{Note}
 use Rattle.offline_programs.specs.declared.fault.RunFault.{RunFault}
 use Rattle.driver.specs.declared.action.Action.{Action}
@@ -77,7 +77,12 @@ pub record Tries {K : Type 0} (R : SinkRules K) (k : K) (disk : DiskView) (text 
   pub tried : R.tried k disk text whole l
   pub appends : whole ≡ true → Appends (R.written k) (R.written l) text
 
--- A text was tried, and not all of it went out. Where there was no memory for it, a beginning of it did.
+-- A fault was printed, last of all: all of its text, or, of a voice that writes in lines, a beginning of it.
+pub record TriesLast {K : Type 0} (R : SinkRules K) (k : K) (disk : DiskView) (text : List ℕ) (whole : Bool) (l : K) : Type 0 where
+  pub tries : Tries R k disk text whole l
+  pub front : R.voice.in_lines ≡ true → WroteFront false (R.written k) (R.written l) text
+
+-- A text was tried, and not all of it went out. Where there was no memory for it, or a stream failed that is written in lines, a beginning of it did.
 pub record TriesInVain {K : Type 0} (R : SinkRules K) (k : K) (disk : DiskView) (text : List ℕ) (why : RunFault) (l : K) : Type 0 where
   pub tried : R.tried k disk text false l
   pub cut : CutShort R.voice.in_lines (R.written k) (R.written l) text why

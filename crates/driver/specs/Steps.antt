@@ -38,7 +38,7 @@ use Rattle.offline_programs.specs.declared.fault.RunFault.{RunFault}
 use Rattle.offline_programs.specs.declared.fault.RunFault.TheVariants as fault
 use Rattle.driver.specs.declared.action.Action.{Action}
 use Rattle.driver.specs.Reports.{TurnCame, Report, interrupt_came, lines, printed_text}
-use Rattle.driver.specs.Place.{RunPlace, Rules, Tries, TriesInVain, run_at}
+use Rattle.driver.specs.Place.{RunPlace, Rules, Tries, TriesInVain, TriesLast, run_at}
 use Rattle.driver.specs.Items.{Item, RunStep, after_fault, ask, broke, carried, carry, chose, print_fault, printed_fault, halt, hear, heard, heed, heeded, interrupt, interrupted, items_by, join, notes, refused_whole, rewrite, rewrote, stall, stalled, stalls, take, print, printing, printing_joined, printed, receive, received, take_alone, take_edits, taking_due, took, took_alone, watch, watched, take_transaction}
 use Rattle.driver.specs.Hearing.{HeardReady}
 
@@ -169,7 +169,7 @@ pub data Goes {A C K : Type 0} (R : Rules A C K) (p : RunPlace A C K) : List Ite
       → Goes R p (heed c ∷ rest) (heeded c n) (notes n ++ rest) (record p { agenda = a })
   breaks : (i : Item) (entries : List Entry) (why : RunFault) (q : RunPlace A C K) (rest : List Item) → Fails R p i entries why q
       → Goes R p (i ∷ rest) (broke entries why) (after_fault why) q
-  prints_fault : (why : RunFault) (whole : Bool) (k : K) → Tries R.sink p.sink p.disk (R.sink.voice.fault why) whole k
+  prints_fault : (why : RunFault) (whole : Bool) (k : K) → TriesLast R.sink p.sink p.disk (R.sink.voice.fault why) whole k
       → Goes R p (print_fault why ∷ []) (printed_fault why whole) (halt why ∷ []) (record p { sink = k })
 
 -- These steps lead from where this is to be done to where that is.

@@ -16,15 +16,15 @@ pub trait Sink {
     ghost use Rattle.session_engine.specs.World.{World};
     ghost use Rattle.session_engine.specs.Host.{IsHost};
     ghost use Rattle.tellings.specs.Voice.{CutShort, IsWithheld};
-    ghost use Rattle.driver.specs.Place.{SinkRules, Tries};
+    ghost use Rattle.driver.specs.Place.{SinkRules, Tries, TriesLast};
     ghost use Rattle.driver.specs.Reports.{printed_text};
     ghost use Rattle.driver.specs.Reports as report;
 
     /// The texts that it prints, what was printed so far where that is known, and what may come of trying one.
     ghost rules: { SinkRules Self };
 
-    // Of each call: `Output` where the stream failed, and a part may have gone out; `OutOfMemory` where a voice that takes memory
-    // has none for it: then a beginning of the text went out, and nothing else.
+    // Of each call: `Output` where the stream failed: then of a voice that writes in lines a beginning of the text went out, of
+    // another one a part; `OutOfMemory` where a voice that takes memory has none for it: then whole lines of it went out at most.
 
     /// Prints what commands gave that were taken as one group, one of each line from this one on.
     fn lines<D: Disk>(
@@ -75,6 +75,6 @@ pub trait Sink {
 
     /// Prints a fault, last of all. Whether that went out.
     fn print_fault<D: Disk>(&mut self, host: &Host<D>, why: RunFault) -> bool
-        ensures { Tries rules self.old host.now.store.disk (rules.voice.fault why) result
+        ensures { TriesLast rules self.old host.now.store.disk (rules.voice.fault why) result
             self.new };
 }

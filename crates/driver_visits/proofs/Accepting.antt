@@ -14,7 +14,7 @@ use Rattle.recovery.specs.Sheets.{IsEither, IsSheetImage}
 use Rattle.host_events.specs.declared.event.Event.{Event}
 use Rattle.child_edge.specs.Moments.{events_of}
 use Rattle.theorem.specs.Acts.{HasFirst}
-use Rattle.theorem.specs.Copies.{IsEvaluating, PutIn, PutsWhole, put_from}
+use Rattle.theorem.specs.Copies.{IsEvalOrChild, PutIn, PutsWhole, put_from}
 use Rattle.host_events.specs.declared.outcome.HostFault.TheVariants as hosts
 use Rattle.offline_programs.specs.declared.fault.RunFault.{RunFault}
 use Rattle.offline_programs.specs.declared.fault.RunFault.TheVariants as fault
@@ -87,9 +87,9 @@ module _ (held : Option (List ℕ) → DiskView → Type 0) (disk back : DiskVie
       subst (λ (es : List Event). AllByRecursion (PutsWhole (sheet_of ops) es) put) (sym are)
       (all_so (AnsweredOnCopy o (sheet_of ops) q all from.run) (PutsWhole (sheet_of ops) (events_of (run_trace from.run))) (whole_by o (sheet_of ops) q all from.run) put from.whole)
 
-  only-evaluating : (cases : List Case) (given : List Event) (put : List Op) → FromCopy o (sheet_of ops) q cases (put_from given put) → AllByRecursion IsEvaluating given
-  only-evaluating cases given put (inl none) = subst (AllByRecursion IsEvaluating) (sym (ap (λ (p : PutIn). p.given) none.0)) tt
-  only-evaluating cases given put (inr (all, more, from, are)) = subst (AllByRecursion IsEvaluating) (sym are) (run_evaluates o (sheet_of ops) q all from.run)
+  only-evaluating : (cases : List Case) (given : List Event) (put : List Op) → FromCopy o (sheet_of ops) q cases (put_from given put) → AllByRecursion IsEvalOrChild given
+  only-evaluating cases given put (inl none) = subst (AllByRecursion IsEvalOrChild) (sym (ap (λ (p : PutIn). p.given) none.0)) tt
+  only-evaluating cases given put (inr (all, more, from, are)) = subst (AllByRecursion IsEvalOrChild) (sym are) (run_evaluates o (sheet_of ops) q all from.run)
 
   found-on : IsSheetImage (sheet_of ops) (bytes_on disk)
   found-on = subst (λ (s : Contents). IsSheetImage s (bytes_on disk)) found.is (found.found model)

@@ -41,7 +41,7 @@ use Rattle.sheet_check.specs.Marks.{mark_rules}
 use Rattle.sheet_check.specs.Evaluated.{OneByOne, came_if, reason_shown_in, shown_in}
 use Rattle.sheet_check.specs.Fields.{FieldChecked, FieldsChecked, checked, comes_by, passed}
 use Rattle.sheet_check.proofs.Fields.{fields-more}
-use Rattle.theorem.specs.Copies.{IsEvaluating, PutsWhole}
+use Rattle.theorem.specs.Copies.{IsEvalOrChild, PutsWhole}
 use Rattle.driver_visits.proofs.Evaluating.{AreOfEvals, entries_joined, lines_stay, of_fields}
 use Rattle.driver_visits.specs.Copied.{AnsweredOnCopy, EvaluatedOnCopy, RanOnCopy, all_fields, broke_off, field_trace, fields_trace, first_fields, place_at_first, place_at_last, run_trace, world_at_first}
 
@@ -346,7 +346,7 @@ whole_by o sheet q all (first_fields c) = whole_answer o sheet q all (first_fiel
 whole_by o sheet q all (broke_off c) = whole_answer o sheet q all (broke_off c) c.copied refl
 
 -- nothing but evaluations was asked
-pub run_evaluates : {C : Type 0} (o : OneByOne C) (sheet : Contents) (q : Passage C) (all : List Case) (run : RanOnCopy o sheet q all) → AllByRecursion IsEvaluating (events_of (run_trace run))
+pub run_evaluates : {C : Type 0} (o : OneByOne C) (sheet : Contents) (q : Passage C) (all : List Case) (run : RanOnCopy o sheet q all) → AllByRecursion IsEvalOrChild (events_of (run_trace run))
 run_evaluates o sheet q all (all_fields c) = fields_evaluate o sheet.fields _ c.cases c.leads c.checked
 run_evaluates o sheet q all (first_fields c) = fields_evaluate o c.gone _ all c.mid c.checked
 run_evaluates o sheet q all (broke_off c) = fields_evaluate o c.gone _ all c.mid c.checked

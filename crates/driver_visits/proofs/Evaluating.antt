@@ -32,7 +32,7 @@ use Rattle.host_laws.proofs.Showing.{ops_item, stepped}
 use Rattle.child_calls.specs.Calls.{Answer, done, end, fault, no_memory, piece}
 use Rattle.child_calls.specs.declared.seat.Seat.{Seat}
 use Rattle.child_edge.specs.Faithful.{At, Entry, FirstOf, Follows, Relation, at, due_after, due_of}
-use Rattle.theorem.specs.Copies.{IsEvaluating}
+use Rattle.theorem.specs.Copies.{IsEvalOrChild}
 use Rattle.child_edge.specs.Moments.{events_of}
 use Rattle.child_edge.specs.Together.{CarriesOut, Followed, HearsOne, entries_after, group_entries, trace_of}
 use Rattle.offline_programs.specs.declared.fault.RunFault.{RunFault}
@@ -61,7 +61,7 @@ use Rattle.field_agenda.specs.declared.stage.Stage.TheVariants as stage
 -- Evaluations, and what comes from lives.
 
 abbrev pub AreOfEvals : List Event → Type 0
-AreOfEvals events = AllByRecursion IsEvaluating events
+AreOfEvals events = AllByRecursion IsEvalOrChild events
 
 all_joined : (es fs : List Event) → AreOfEvals es → AreOfEvals fs → AreOfEvals (es ++ fs)
 all_joined [] fs h k = k
@@ -108,7 +108,7 @@ by_eval w id None o v given = ⊎_elim
     (λ yes. subst (KeptInputs w) (sym yes.1) (inr (op.Clear id, ap (λ (os : List Op). os ++ op.Clear id ∷ []) (ops_item w _ _ _), λ n. tt)))
     (λ no. stays w v no.2) given
 
-kept_inputs : (w : World) (e : Event) (o : Outcome) (v : World) → GivesByParts w e o v → IsEvaluating e → KeptInputs w v
+kept_inputs : (w : World) (e : Event) (o : Outcome) (v : World) → GivesByParts w e o v → IsEvalOrChild e → KeptInputs w v
 kept_inputs w (event.Command (command.Eval id)) o v given of = by_eval w id (first_of (command_refusals w (command.Eval id))) o v given
 kept_inputs w (event.Command (command.Session name tab words)) o v given of = absurd of
 kept_inputs w (event.Command (command.New place session input)) o v given of = absurd of
@@ -178,7 +178,7 @@ AsksEvals (item.hear seat most) = Unit {0}
 AsksEvals (item.take from events) = AreOfEvals events
 AsksEvals (item.take_transaction first events) = ⊥
 AsksEvals (item.take_edits up_to events) = ⊥
-AsksEvals (item.take_alone e) = IsEvaluating e
+AsksEvals (item.take_alone e) = IsEvalOrChild e
 AsksEvals (item.carry o) = Unit {0}
 AsksEvals (item.receive seat) = Unit {0}
 AsksEvals (item.join events) = AreOfEvals events
@@ -256,8 +256,8 @@ all_stalled : (seats : List Seat) → AreOfEvals (map stalls seats)
 all_stalled [] = tt
 all_stalled (seat ∷ seats) = (tt, all_stalled seats)
 
-one_heard : {C : Type 0} (R : Relation C) (seat : Seat) (c : C) (e : Event) (d : C) → HearsOne R seat c e d → IsEvaluating e
-one_heard R seat c e d (said, heard, is) = subst IsEvaluating (sym is) tt
+one_heard : {C : Type 0} (R : Relation C) (seat : Seat) (c : C) (e : Event) (d : C) → HearsOne R seat c e d → IsEvalOrChild e
+one_heard R seat c e d (said, heard, is) = subst IsEvalOrChild (sym is) tt
 
 heard_after : {C : Type 0} (R : SourceRules C) (c : C) (events : List Event) (d : C) → HeardAfter R c events d → AreOfEvals events
 heard_after R c events d no_other = tt
@@ -271,7 +271,7 @@ all_heard R seat most c events d (last, heard, again) =
 -- an event that is due, if one is, comes from a life
 abbrev IsDue : Option Event → Type 0
 IsDue None = Unit {0}
-IsDue (Some e) = IsEvaluating e
+IsDue (Some e) = IsEvalOrChild e
 
 fault_due : (f : Effect) → IsDue (due_of (Some f) (Some fault))
 fault_due (effect.Start name life words) = tt
@@ -294,7 +294,7 @@ due_asks (Some e) h = (h, tt)
 follows : {C : Type 0} (R : Relation C) (s : At C) (due : Option Event) (bs : List Entry) (left : Option Event) (t : At C) → IsDue due → Follows R s due bs left t → AreOfEvals (events_of bs)
 follows R s due [] left t h f = tt
 follows R s None (b ∷ bs) left t h f = absurd f
-follows R s (Some e) (b ∷ bs) left t h f = (subst IsEvaluating (sym f.1.event) h, follows R f.0 (due_after b) bs left t (all_due b.outcome.effect b.answer) f.2)
+follows R s (Some e) (b ∷ bs) left t h f = (subst IsEvalOrChild (sym f.1.event) h, follows R f.0 (due_after b) bs left t (all_due b.outcome.effect b.answer) f.2)
 
 after-joined : (fs gs : List Followed) → entries_after (fs ++ gs) ≡ entries_after fs ++ entries_after gs
 after-joined [] gs = refl

@@ -307,7 +307,7 @@ impl<P: Programs> ByFields<P> {
         ensures due { result ≡ standing.life_due self.old.due }
         ensures stands { self.new ≡ standing.seen_due self.old }
     {
-        let due = mem::replace(&mut self.due, None);
+        let due = self.due.take();
         life_due(due)
     }
 

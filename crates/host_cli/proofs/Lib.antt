@@ -3,3 +3,4 @@ pub mod EachChecked
 pub mod NumbersRead
 pub mod PlansRefused
 pub mod Unheld
+pub mod Within

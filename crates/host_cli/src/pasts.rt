@@ -1,24 +1,20 @@
 //! The worksheet at a path as it was, and the list of its changes.
 ghost use Rattle.std.specs.Prelude.{◌≡◌, []};
 ghost use Rattle.command_words.specs.Asked as asked;
-ghost use Rattle.program_endings.specs.PastProgram.{PastExported};
 ghost use Rattle.sheet_export.specs.Formats as exports;
 ghost use Rattle.host_cli.specs.Tasks.{DoesExportAt, DoesHistory, DoesRestore, DoesShowAt, ExportsAfter, ExportsPast, RestoresAfter, ShowsAfter};
 ghost use Rattle.host_cli.specs.WholeProgram.{LeavesAlone};
 
 use crate::outside::{Outside, System, SystemView};
 use crate::refusing::{refuse_changes, refuse_format};
-use offline_programs::Says;
 use program_endings::{
-    Both, Ending, ExportForm, end_past, end_unheld, read_past, run_export_past, run_history,
-    run_rescue, run_show_past,
+    Ending, ExportForm, end_past, end_unheld, read_past, run_export_past, run_history, run_rescue,
+    run_show_past,
 };
-use recovery::Rescued;
 use sheet_export::{Format, format_named, last_part};
-use sheet_files::{Close, Places};
+use sheet_files::Places;
 use sheet_text::read_number;
 use std::alloc::Global;
-use std::io::Write;
 
 /// `history` of the worksheet at a path.
 pub(crate) fn history_at<Y: System>(alloc: Global, outside: &mut Outside<Y>, path: &str) -> Ending
@@ -83,28 +79,6 @@ pub(crate) fn titled<'a>(format: Format, path: &'a str) -> ExportForm<'a>
     }
 }
 
-/// In which format a worksheet is written, and at which path it lies, whose last part is the title.
-#[derive(Clone, Copy)]
-struct PathForm<'a> {
-    format: Format,
-    path: &'a str,
-}
-
-/// Exports what was found at a path.
-fn export_found<D: Close, W: Write, E: Says>(
-    alloc: Global,
-    found: Rescued<D>,
-    form: &PathForm<'_>,
-    output: &mut W,
-    errors: &mut E,
-) -> Ending
-    ensures { PastExported D.closed found form.now.format (exports.last_part form.now.path.now)
-        (⟦<(W, E) as Both>⟧.streams output.old output.new errors.old errors.new) result }
-{
-    let form = titled(form.format, form.path);
-    run_export_past(alloc, found, &form, output, errors)
-}
-
 /// `export` of the worksheet at a path after its first so many changes.
 fn export_after<Y: System>(
     alloc: Global,
@@ -121,10 +95,10 @@ fn export_after<Y: System>(
         return end_unheld(why, &mut outside.errors);
     }
     match read_past(alloc, outside.places.open_to_read(path), u64::from(changes)) {
-        Ok(found) => export_found(
+        Ok(found) => run_export_past(
             alloc,
             found,
-            &PathForm { format, path },
+            &titled(format, path),
             &mut outside.output,
             &mut outside.errors,
         ),

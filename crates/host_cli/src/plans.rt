@@ -4,6 +4,8 @@ ghost use Rattle.command_words.specs.Asked.{eval_view};
 ghost use Rattle.host_cli.specs.Plans.{AsksNoPlan, AsksPlan, check_jobs_asked, check_jobs_by, from_asked, jobs_asked, jobs_by, jobs_unwritten, numbers_of_several, limit_asked, named_asked, numbers_in, several_refused, spared_asked, word_text, word_texts, which_asked};
 ghost use Rattle.host_cli.specs.Plans as plan;
 ghost use Rattle.host_cli.specs.inside.Reading.{IsWhy};
+ghost use Rattle.host_cli.specs.inside.Within.{within};
+ghost use Rattle.sheet_text.specs.Script.{number_written};
 
 use block_tree::{OutOfMemory, Sequence};
 use check_report::ReportFormat as Report;
@@ -57,22 +59,33 @@ pub enum SeveralFault {
     Compared,
 }
 
+/// The number that a text writes, from 1 to a limit. None where it writes none of these.
+fn read_within(text: &str, most: u32) -> Option<u32>
+    ensures { result ≡ within most (number_written text.now) }
+{
+    match read_number(text.as_bytes()) {
+        None => None,
+        Some(number) => {
+            if 1 <= number && number <= most {
+                Some(number)
+            } else {
+                None
+            }
+        }
+    }
+}
+
 /// The time that a field may take, where there is a limit. None where the words name no time.
+#[tactic(auto, using(crate::proofs::Within::limits))]
 pub(crate) fn read_limit(text: Option<&str>) -> Option<Option<u32>>
     ensures { result ≡ limit_asked (word_text text.entry) }
 {
     let Some(text) = text else {
         return Some(None);
     };
-    match read_number(text.as_bytes()) {
+    match read_within(text, MOST_SECONDS) {
         None => None,
-        Some(seconds) => {
-            if 1 <= seconds && seconds <= MOST_SECONDS {
-                Some(Some(seconds))
-            } else {
-                None
-            }
-        }
+        Some(seconds) => Some(Some(seconds)),
     }
 }
 
@@ -91,21 +104,16 @@ fn unwritten_jobs(in_turn: bool, timeout: Option<&str>) -> u32
 }
 
 /// In how many sessions fields may wait at a time, by the words that write it, and those of the limit of time.
+#[tactic(auto, using(crate::proofs::Within::jobs))]
 fn read_jobs(text: Option<&str>, strict: bool, timeout: Option<&str>) -> Result<u32, PlanFault>
     ensures { result ≡ jobs_asked (word_text text.entry) strict (word_text timeout.entry) }
 {
     let Some(text) = text else {
         return Ok(unwritten_jobs(strict, timeout));
     };
-    match read_number(text.as_bytes()) {
+    match read_within(text, MOST_JOBS) {
         None => Err(PlanFault::Jobs),
-        Some(jobs) => {
-            if 1 <= jobs && jobs <= MOST_JOBS {
-                allow_jobs(jobs, strict)
-            } else {
-                Err(PlanFault::Jobs)
-            }
-        }
+        Some(jobs) => allow_jobs(jobs, strict),
     }
 }
 
@@ -132,6 +140,7 @@ fn allow_check_jobs(jobs: u32, accept: bool) -> Result<u32, JobsFault>
 }
 
 /// How many sessions of a check may go side by side.
+#[tactic(auto, using(crate::proofs::Within::check_jobs))]
 pub(crate) fn read_check_jobs(
     text: Option<&str>,
     accept: bool,
@@ -142,15 +151,9 @@ pub(crate) fn read_check_jobs(
     let Some(text) = text else {
         return Ok(unwritten_jobs(accept, timeout));
     };
-    match read_number(text.as_bytes()) {
+    match read_within(text, MOST_JOBS) {
         None => Err(JobsFault::Number),
-        Some(jobs) => {
-            if 1 <= jobs && jobs <= MOST_JOBS {
-                allow_check_jobs(jobs, accept)
-            } else {
-                Err(JobsFault::Number)
-            }
-        }
+        Some(jobs) => allow_check_jobs(jobs, accept),
     }
 }
 

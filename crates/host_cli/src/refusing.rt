@@ -4,6 +4,7 @@ ghost use Rattle.std.specs.declared.io.ErrorKind.TheVariants as io_kind;
 ghost use Rattle.clap.specs.Words.{kind_of};
 ghost use Rattle.clap.specs.declared.error.kind.ErrorKind.TheVariants as kind;
 ghost use Rattle.host_cli.specs.Refused.{RefusesJobs, RefusesPlan, RefusesRequest, RefusesSeveral, RefusesWith, RefusesWords, ShowsHelp, ShowsText, no_check_seconds_text, no_changes_text, no_format_text, no_run_seconds_text};
+ghost use Rattle.host_cli.specs.inside.Refusing.{refusal_text};
 ghost use Rattle.program_endings.specs.Ending.{TellsFault};
 ghost use Rattle.offline_programs.specs.declared.fault.RunFault.TheVariants as fault;
 
@@ -41,17 +42,24 @@ impl Message for FromClap<'_> {
     }
 }
 
-/// A text of this program's own.
+/// Why words ask for nothing that there is, and the task whose help says more.
 #[derive(Clone, Copy)]
-struct OwnText<'a> {
-    bytes: &'a [u8],
+struct Refusal<'a> {
+    why: &'a str,
+    task: &'a str,
 }
 
-impl Message for OwnText<'_> {
-    ghost text = { λ text. Some text.bytes.now };
+impl Message for Refusal<'_> {
+    ghost text = { λ it. Some (refusal_text it.why.now it.task.now) };
 
     fn write<W: Write>(&self, out: &mut W) -> Result<(), WriteFault> {
-        out.write_all(self.bytes).map_err(|_| WriteFault)
+        let why = self.why;
+        let task = self.task;
+        write!(
+            out,
+            "error: {why}\n\nFor more information, try 'tmhost {task} --help'.\n"
+        )
+        .map_err(|_| WriteFault)
     }
 }
 
@@ -101,11 +109,12 @@ pub fn refuse_unread_words<E: Says>(kind: io::ErrorKind, errors: &mut E) -> Endi
     }
 }
 
-/// Refuses words that ask for nothing that there is, with this text.
-fn refuse_with<E: Says>(text: &[u8], errors: &mut E) -> Ending
-    ensures { RefusesWith text.now (⟦<E as Heard>⟧.said errors.old errors.new) result }
+/// Refuses words that ask for nothing that there is, for this reason, and names the task whose help says more.
+fn refuse_with<E: Says>(why: &str, task: &str, errors: &mut E) -> Ending
+    ensures { RefusesWith (refusal_text why.now task.now)
+        (⟦<E as Heard>⟧.said errors.old errors.new) result }
 {
-    refused(errors.say(&OwnText { bytes: text }))
+    refused(errors.say(&Refusal { why, task }))
 }
 
 /// Refuses words that ask for a format that there isn't.
@@ -113,8 +122,8 @@ pub(crate) fn refuse_format<E: Says>(errors: &mut E) -> Ending
     ensures { RefusesWith no_format_text (⟦<E as Heard>⟧.said errors.old errors.new) result }
 {
     refuse_with(
-        b"error: there is no such format: FORMAT is script, markdown, html, notebook or json\n\n\
-        For more information, try 'tmhost export --help'.\n",
+        "there is no such format: FORMAT is script, markdown, html, notebook or json",
+        "export",
         errors,
     )
 }
@@ -124,8 +133,8 @@ pub(crate) fn refuse_changes<E: Says>(errors: &mut E) -> Ending
     ensures { RefusesWith no_changes_text (⟦<E as Heard>⟧.said errors.old errors.new) result }
 {
     refuse_with(
-        b"error: this is no number of changes: N is a number, as `tmhost history` lists them\n\n\
-        For more information, try 'tmhost history --help'.\n",
+        "this is no number of changes: N is a number, as `tmhost history` lists them",
+        "history",
         errors,
     )
 }
@@ -136,33 +145,25 @@ pub(crate) fn refuse_plan<E: Says>(why: PlanFault, errors: &mut E) -> Ending
 {
     match why {
         PlanFault::Seconds => refuse_with(
-            b"error: this is no time: SECONDS is a number from 1 to 1000000\n\n\
-            For more information, try 'tmhost eval --help'.\n",
+            "this is no time: SECONDS is a number from 1 to 1000000",
+            "eval",
             errors,
         ),
-        PlanFault::Id => refuse_with(
-            b"error: this is no field: ID is a number, as 3\n\n\
-            For more information, try 'tmhost eval --help'.\n",
-            errors,
-        ),
-        PlanFault::Both => refuse_with(
-            b"error: --from goes with no ID after PATH\n\n\
-            For more information, try 'tmhost eval --help'.\n",
-            errors,
-        ),
+        PlanFault::Id => refuse_with("this is no field: ID is a number, as 3", "eval", errors),
+        PlanFault::Both => refuse_with("--from goes with no ID after PATH", "eval", errors),
         PlanFault::Jobs => refuse_with(
-            b"error: this is no number of jobs: N is a number from 1 to 64\n\n\
-            For more information, try 'tmhost eval --help'.\n",
+            "this is no number of jobs: N is a number from 1 to 64",
+            "eval",
             errors,
         ),
         PlanFault::Strict => refuse_with(
-            b"error: --jobs goes with no --strict and no --stop-at-error\n\n\
-            For more information, try 'tmhost eval --help'.\n",
+            "--jobs goes with no --strict and no --stop-at-error",
+            "eval",
             errors,
         ),
         PlanFault::Changed => refuse_with(
-            b"error: --changed goes with no ID after PATH, no --from and no --unanswered\n\n\
-            For more information, try 'tmhost eval --help'.\n",
+            "--changed goes with no ID after PATH, no --from and no --unanswered",
+            "eval",
             errors,
         ),
         PlanFault::OutOfMemory => end_program(Err(RunFault::OutOfMemory), errors),
@@ -174,8 +175,8 @@ pub(crate) fn refuse_run_limit<E: Says>(errors: &mut E) -> Ending
     ensures { RefusesWith no_run_seconds_text (⟦<E as Heard>⟧.said errors.old errors.new) result }
 {
     refuse_with(
-        b"error: this is no time: SECONDS is a number from 1 to 1000000\n\n\
-        For more information, try 'tmhost run --help'.\n",
+        "this is no time: SECONDS is a number from 1 to 1000000",
+        "run",
         errors,
     )
 }
@@ -185,8 +186,8 @@ pub(crate) fn refuse_check_limit<E: Says>(errors: &mut E) -> Ending
     ensures { RefusesWith no_check_seconds_text (⟦<E as Heard>⟧.said errors.old errors.new) result }
 {
     refuse_with(
-        b"error: this is no time: SECONDS is a number from 1 to 1000000\n\n\
-        For more information, try 'tmhost check --help'.\n",
+        "this is no time: SECONDS is a number from 1 to 1000000",
+        "check",
         errors,
     )
 }
@@ -197,15 +198,11 @@ pub(crate) fn refuse_jobs<E: Says>(why: JobsFault, errors: &mut E) -> Ending
 {
     match why {
         JobsFault::Number => refuse_with(
-            b"error: this is no number of jobs: N is a number from 1 to 64\n\n\
-            For more information, try 'tmhost check --help'.\n",
+            "this is no number of jobs: N is a number from 1 to 64",
+            "check",
             errors,
         ),
-        JobsFault::Accepting => refuse_with(
-            b"error: --jobs goes with no --accept\n\n\
-            For more information, try 'tmhost check --help'.\n",
-            errors,
-        ),
+        JobsFault::Accepting => refuse_with("--jobs goes with no --accept", "check", errors),
     }
 }
 
@@ -215,23 +212,23 @@ pub(crate) fn refuse_several<E: Says>(why: SeveralFault, errors: &mut E) -> Endi
 {
     match why {
         SeveralFault::Format => refuse_with(
-            b"error: several PATHs go with no FORMAT but text\n\n\
-            For more information, try 'tmhost check --help'.\n",
+            "several PATHs go with no FORMAT but text",
+            "check",
             errors,
         ),
         SeveralFault::Accepting => refuse_with(
-            b"error: --accept goes with one PATH alone\n\n\
-            For more information, try 'tmhost check --help'.\n",
+            "--accept goes with one PATH alone",
+            "check",
             errors,
         ),
         SeveralFault::Compared => refuse_with(
-            b"error: --compare goes with one PATH alone\n\n\
-            For more information, try 'tmhost check --help'.\n",
+            "--compare goes with one PATH alone",
+            "check",
             errors,
         ),
         SeveralFault::LeftOut => refuse_with(
-            b"error: --leave-out goes with one PATH alone\n\n\
-            For more information, try 'tmhost check --help'.\n",
+            "--leave-out goes with one PATH alone",
+            "check",
             errors,
         ),
     }
@@ -243,33 +240,29 @@ pub(crate) fn refuse_request<E: Says>(why: RequestFault, errors: &mut E) -> Endi
 {
     match why {
         RequestFault::Format => refuse_with(
-            b"error: there is no such format: FORMAT is text, tap, junit or json\n\n\
-            For more information, try 'tmhost check --help'.\n",
+            "there is no such format: FORMAT is text, tap, junit or json",
+            "check",
             errors,
         ),
         RequestFault::Session => refuse_with(
-            b"error: no session can have this name: NAME is 1 to 32 letters, digits, `_` and `-`\n\n\
-            For more information, try 'tmhost check --help'.\n",
+            "no session can have this name: NAME is 1 to 32 letters, digits, `_` and `-`",
+            "check",
             errors,
         ),
         RequestFault::Ids => refuse_with(
-            b"error: these are no fields: IDS are numbers and ranges of them, as 3,7-9\n\n\
-            For more information, try 'tmhost check --help'.\n",
+            "these are no fields: IDS are numbers and ranges of them, as 3,7-9",
+            "check",
             errors,
         ),
-        RequestFault::Both => refuse_with(
-            b"error: --json goes with no --format\n\n\
-            For more information, try 'tmhost check --help'.\n",
-            errors,
-        ),
+        RequestFault::Both => refuse_with("--json goes with no --format", "check", errors),
         RequestFault::Whole => refuse_with(
-            b"error: --whole goes with no FORMAT but text, and with no --accept\n\n\
-            For more information, try 'tmhost check --help'.\n",
+            "--whole goes with no FORMAT but text, and with no --accept",
+            "check",
             errors,
         ),
         RequestFault::Accepting => refuse_with(
-            b"error: --accept goes with no FORMAT but text\n\n\
-            For more information, try 'tmhost check --help'.\n",
+            "--accept goes with no FORMAT but text",
+            "check",
             errors,
         ),
         RequestFault::OutOfMemory => end_program(Err(RunFault::OutOfMemory), errors),

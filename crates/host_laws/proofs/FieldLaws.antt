@@ -15,7 +15,7 @@ use Rattle.worksheet.proofs.OneMore.{about_from-push, last_of-push, field_of-pus
 use Rattle.worksheet.proofs.Existence.{has_what_exists, allowed_goes_on}
 use Rattle.worksheet.proofs.NextLaws.{sound_of}
 use Rattle.worksheet.proofs.Finds.{field_in-id}
-use Rattle.host_laws.specs.Turns.{LeavesField}
+use Rattle.host_laws.specs.Turns.{SparesField}
 use Rattle.session_engine.specs.inside.Commits.{Spares}
 use Rattle.session_engine.proofs.Fields.{has_still}
 
@@ -207,7 +207,7 @@ cleared os id f allowed h =
 
 -- A field stays.
 
-makes_none : (id next : ℕ) (o : Op) (was : Bool) → LeavesField id o → (next == id) ≡ false → is_about id next o ≡ true → (if makes_or_ends o then is_making (Some o) else was) ≡ was
+makes_none : (id next : ℕ) (o : Op) (was : Bool) → SparesField id o → (next == id) ≡ false → is_about id next o ≡ true → (if makes_or_ends o then is_making (Some o) else was) ≡ was
 makes_none id next (op.Session name tab words) was h n a = refl
 makes_none id next (op.New after session input) was h n a = absurd (let no : true ≡ false = sym a ∙ n in cc)
 makes_none id next (op.Set other input) was h n a = refl
@@ -218,7 +218,7 @@ makes_none id next (op.Answer other prompt output) was h n a = refl
 makes_none id next (op.Lost other why) was h n a = refl
 makes_none id next (op.Ids number) was h n a = refl
 
-changes_none : (id next : ℕ) (o : Op) (f : Field) → LeavesField id o → (next == id) ≡ false → is_about id next o ≡ true → changed o f ≡ f
+changes_none : (id next : ℕ) (o : Op) (f : Field) → SparesField id o → (next == id) ≡ false → is_about id next o ≡ true → changed o f ≡ f
 changes_none id next (op.Session name tab words) f h n a = refl
 changes_none id next (op.New after session input) f h n a = absurd (let no : true ≡ false = sym a ∙ n in cc)
 changes_none id next (op.Set other input) f h n a = absurd (let no : true ≡ false = sym a ∙ h in cc)
@@ -230,7 +230,7 @@ changes_none id next (op.Lost other why) f h n a = absurd (let no : true ≡ fal
 changes_none id next (op.Ids number) f h n a = refl
 
 -- where an op leaves it
-pub field_stays : (os : List Op) (o : Op) (f : Field) → Allowed os → Allowed (os ++ o ∷ []) → LeavesField f.id o → field_in (sheet_of os).fields f.id ≡ Some f → field_in (sheet_of (os ++ o ∷ [])).fields f.id ≡ Some f
+pub field_stays : (os : List Op) (o : Op) (f : Field) → Allowed os → Allowed (os ++ o ∷ []) → SparesField f.id o → field_in (sheet_of os).fields f.id ≡ Some f → field_in (sheet_of (os ++ o ∷ [])).fields f.id ≡ Some f
 field_stays os o f allowed after leaves has =
     let was = is_there os f.id f allowed has in
     let n = not_next os f.id f allowed has in

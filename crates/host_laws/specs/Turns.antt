@@ -207,20 +207,20 @@ HostsInTurn = (room : ℕ) (first : List Op) (before after : Image) (turns : Lis
 -- Reported answers.
 
 -- what an op is that leaves what the field with this number shows: it is about another field, moves this one, or makes something
-abbrev pub LeavesField : ℕ → Op → Type 0
-LeavesField id (op.Session name tab words) = Unit {0}
-LeavesField id (op.New after session input) = Unit {0}
-LeavesField id (op.Set other input) = (other == id) ≡ false
-LeavesField id (op.Remove other) = (other == id) ≡ false
-LeavesField id (op.Move other after) = Unit {0}
-LeavesField id (op.Clear other) = (other == id) ≡ false
-LeavesField id (op.Answer other prompt output) = (other == id) ≡ false
-LeavesField id (op.Lost other why) = (other == id) ≡ false
-LeavesField id (op.Ids number) = Unit {0}
+abbrev pub SparesField : ℕ → Op → Type 0
+SparesField id (op.Session name tab words) = Unit {0}
+SparesField id (op.New after session input) = Unit {0}
+SparesField id (op.Set other input) = (other == id) ≡ false
+SparesField id (op.Remove other) = (other == id) ≡ false
+SparesField id (op.Move other after) = Unit {0}
+SparesField id (op.Clear other) = (other == id) ≡ false
+SparesField id (op.Answer other prompt output) = (other == id) ≡ false
+SparesField id (op.Lost other why) = (other == id) ≡ false
+SparesField id (op.Ids number) = Unit {0}
 
 -- a step gave no op, or such a one
 abbrev pub StepLeavesField : ℕ → HostStep → Type 0
-StepLeavesField id s = (s.following.ops ≡ s.before.ops) ⊎ ((o : Op) × (s.following.ops ≡ s.before.ops ++ o ∷ []) × LeavesField id o)
+StepLeavesField id s = (s.following.ops ≡ s.before.ops) ⊎ ((o : Op) × (s.following.ops ≡ s.before.ops ++ o ∷ []) × SparesField id o)
 
 -- the outcome says that the line of this field was answered
 abbrev pub SaysAnswered : ℕ → Outcome → Type 0

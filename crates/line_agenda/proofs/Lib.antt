@@ -1,5 +1,4 @@
 pub mod TransactionEnds
-pub mod Both
 pub mod Faults
 pub mod InOrder
 pub mod Opened

@@ -200,7 +200,7 @@ impl<R: Read> ByLines<R> {
         ensures stands { lines_stand R.remaining self.new ≡ heeded
             (lines_stand R.remaining self.old) }
     {
-        let due = mem::replace(&mut self.due, None);
+        let due = self.due.take();
         matter_of(self.manner.lines_first, self.held, due, now)
     }
 

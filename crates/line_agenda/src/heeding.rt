@@ -64,7 +64,6 @@ fn group_wrong(gave: &GaveTogether) -> bool
 }
 
 /// Whether something closed in one of these outcomes or of those.
-#[tactic(auto, using(crate::proofs::Both::any_of_both))]
 fn any_of_both_closed(outcomes: &[Outcome], later: &[Outcome]) -> bool
     ensures { result ≡ list_any (λ o. saying.has_closed o.reply) (outcomes.now ++ later.now) }
 {

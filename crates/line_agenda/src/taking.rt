@@ -18,7 +18,6 @@ use offline_programs::RunFault;
 use session_engine::Host;
 use std::alloc::Global;
 use std::io::Read;
-use std::mem;
 use tellings::Note;
 
 impl<R: Read> ByLines<R> {
@@ -136,7 +135,7 @@ impl<R: Read> ByLines<R> {
             → TakesGivenLine (lines_stand R.remaining self.old) w now
             (live_line_of self.old.lines.held.line) result (lines_stand R.remaining self.new) }
     {
-        match mem::replace(&mut self.transaction, None) {
+        match self.transaction.take() {
             None => self.take_by_itself(alloc, host, now),
             Some(transaction) => self.take_in_transaction(alloc, now, transaction),
         }
@@ -149,7 +148,7 @@ impl<R: Read> ByLines<R> {
             (lines_stand R.remaining self.new) }
     {
         let at = self.reading(now);
-        match mem::replace(&mut self.transaction, None) {
+        match self.transaction.take() {
             None => self.follow(bad(at)),
             Some(transaction) => self.follow(break_at(transaction, at.number)),
         }
@@ -160,7 +159,7 @@ impl<R: Read> ByLines<R> {
         ensures { EndsInput self.old.transaction (lines_stand R.remaining self.old) result
             (lines_stand R.remaining self.new) }
     {
-        match mem::replace(&mut self.transaction, None) {
+        match self.transaction.take() {
             None => Action::End,
             Some(transaction) => {
                 self.doing = Doing::Line(true);

@@ -168,7 +168,6 @@ fn any_refusal(outcomes: &[Outcome]) -> bool
 }
 
 /// Whether one of these outcomes, or one of those later, is a refusal.
-#[tactic(auto, using(crate::proofs::Both::any_of_both))]
 fn any_refusal_of_both(outcomes: &[Outcome], later: &[Outcome]) -> bool
     ensures { result ≡ list_any groups.is_refusal (outcomes.now ++ later.now) }
 {

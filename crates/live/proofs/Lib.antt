@@ -1,3 +1,2 @@
-pub mod Both
 pub mod Said
 pub mod Gatherings

@@ -42,7 +42,6 @@ pub fn any_outcome_wrong(outcomes: &[Outcome]) -> bool
 }
 
 /// Whether the reply of one of these outcomes is, or of those.
-#[tactic(auto, using(crate::proofs::Both::any_of_both))]
 pub fn any_of_both_wrong(outcomes: &[Outcome], later: &[Outcome]) -> bool
     ensures { result ≡ list_any (λ o. wrong.is_wrong o.reply) (outcomes.now ++ later.now) }
 {

@@ -2,6 +2,7 @@
 use Rattle.std.specs.Prelude.{◌≡◌, ℕ, Bool, true, false, List, [], Option}
 use Rattle.std.specs.Io.KnownBytes.{Appends}
 use Rattle.child_calls.specs.Calls.{Answer, Call, done, end, fault, interrupt, no_memory, piece, receive, send, start, stop}
+use Rattle.whole_writes.specs.Fronts.{BeganWith}
 use Rattle.partial_output.specs.Pieces.{reported_text}
 use Rattle.partial_output.specs.declared.piece.Beside.{Beside}
 
@@ -21,6 +22,8 @@ text_beside (send name life bytes) answer = []
 text_beside (interrupt name life) answer = []
 text_beside (stop name life) answer = []
 
--- Where pieces aren't asked for the writer stays as it is. Where they are, and still are after it, exactly this text was written.
-abbrev pub WritesBeside : {W : Type 0} → (W → Option (List ℕ)) → Beside W → List ℕ → Beside W → Type 0
-WritesBeside contents old text new = (old.tells ≡ false → new ≡ old) × (new.tells ≡ true → Appends (contents old.writer) (contents new.writer) text)
+-- Where pieces aren't asked for the writer stays as it is. Where they are, a beginning of this text was written, and all of it where they still are.
+pub record WritesBeside {W : Type 0} (contents : W → Option (List ℕ)) (old : Beside W) (text : List ℕ) (new : Beside W) : Type 0 where
+  pub silent : old.tells ≡ false → new ≡ old
+  pub front : BeganWith (contents old.writer) (contents new.writer) text
+  pub whole : new.tells ≡ true → Appends (contents old.writer) (contents new.writer) text

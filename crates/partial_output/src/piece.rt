@@ -2,11 +2,13 @@
 ghost use Rattle.std.specs.Prelude.{◌≡◌, IfSome, false, true};
 ghost use Rattle.std.specs.Io.KnownBytes.{Appends};
 ghost use Rattle.partial_output.specs.Pieces as piece;
+ghost use Rattle.whole_writes.specs.Fronts.{BeganWith};
 
 use child_calls::Seat;
 use sheet_json::{partial_value, reported_bytes};
 use std::alloc::Global;
 use std::io::Write;
+use whole_writes::write_whole;
 use worksheet::Name;
 
 /// The byte that ends a block. (TeXmacs manual, interfacing: `DATA_END`.)
@@ -39,14 +41,17 @@ fn partial_line(alloc: Global, name: Name, life: u32, bytes: &[u8]) -> Option<Ve
 }
 
 /// Writes a piece of the output of a life as a line of JSON. Whether all of it went out: else there was no memory for it, or
-/// the writer failed.
+/// the writer failed, and a beginning of it went out.
+#[tactic(auto, using(crate::proofs::Fronts::fronts))]
 pub fn write_partial<W: Write>(alloc: Global, seat: Seat, bytes: &[u8], writer: &mut W) -> bool
-    ensures { result ≡ true → Appends (W.contents writer.old) (W.contents writer.new)
+    ensures whole { result ≡ true → Appends (W.contents writer.old) (W.contents writer.new)
+        (piece.partial_text seat.name seat.life bytes.now) }
+    ensures front { BeganWith (W.contents writer.old) (W.contents writer.new)
         (piece.partial_text seat.name seat.life bytes.now) }
 {
     let Seat { name, life } = seat;
     match partial_line(alloc, name, life, bytes) {
-        Some(line) => writer.write_all(line.as_slice()).is_ok(),
+        Some(line) => write_whole(writer, line.as_slice()).is_ok(),
         None => false,
     }
 }
@@ -82,10 +87,12 @@ impl<W: Write + Drop> Beside<W> {
 
     /// Writes a piece of the output of a life out, where pieces are wanted and it ends no block. Where not all of it goes out, no more
     /// of them do.
-    #[tactic(auto, using(crate::proofs::Nothing::nothing))]
+    #[tactic(auto, using(crate::proofs::Fronts::fronts))]
     pub fn tell(&mut self, seat: Seat, bytes: &[u8])
         ensures wrote { self.new.tells ≡ true
             → Appends (W.contents self.old.writer) (W.contents self.new.writer)
+            (piece.reported_text seat.name seat.life bytes.now) }
+        ensures front { BeganWith (W.contents self.old.writer) (W.contents self.new.writer)
             (piece.reported_text seat.name seat.life bytes.now) }
         ensures silent { self.old.tells ≡ false → self.new ≡ self.old }
     {

@@ -24,7 +24,8 @@ pub trait TellsPartial: Sources {
 /// Sources, and the writer to which a piece goes that ends no block, as a line of JSON, where that was asked for.
 ///
 /// Each call is handed on as it is. The relations of these sources say what is written beside at each: nothing, where that wasn't asked
-/// for; else the line of a piece that was received. Where there is no memory for a line, or the writer fails, nothing more is written.
+/// for; else the line of a piece that was received. Where there is no memory for a line, or the writer fails, a beginning of it was written at
+/// most, and nothing more is.
 #[derive(Drop)]
 pub struct Partial<S: Sources + Drop, W: Write + Drop> {
     sources: S,
@@ -44,7 +45,7 @@ impl<S: Sources + Drop, W: Write + Drop> Partial<S, W> {
     }
 
     /// Writes out what was received, where it is such a piece.
-    #[tactic(auto, using(crate::proofs::Nothing::nothing))]
+    #[tactic(auto, using(crate::proofs::Fronts::fronts))]
     fn tell_received(&mut self, seat: Seat, came: &Result<Received, ReceiveFault>)
         ensures sources { self.new.sources ≡ self.old.sources }
         ensures beside { WritesBeside W.contents self.old.beside
@@ -66,7 +67,7 @@ impl<S: Sources + Drop, W: Write + Drop> TellsPartial for Partial<S, W> {
     }
 }
 
-#[tactic(auto, using(crate::proofs::Nothing::nothing))]
+#[tactic(auto, using(crate::proofs::Fronts::fronts))]
 impl<S: Sources + Drop, W: Write + Drop> Children for Partial<S, W> {
     ghost use Rattle.partial_output.specs.Beside.{WritesBeside, text_beside};
 

@@ -72,7 +72,9 @@ module _ {I C W : Type 0} (remaining : I → Option (List ℕ)) (V : Voice) (con
   over_lines : (first last : ProgramParts (ByLines I) C PrintedSoFar) (run : Result (Unit {0}) RunFault) → Over given_rules first last run → Over (lines_driven V s held) (seen_of first) (seen_of last) run
   over_lines first last run o =
       over_seen given_rules lines_rules (λ (k : PrintedSoFar). k.text) (λ (k : PrintedSoFar) (disk : DiskView) (text : List ℕ) (whole : Bool) (l : PrintedSoFar). held k.text disk × (l.whole ≡ whole)) (lines_stand remaining) (λ (k : PrintedSoFar). k)
-      (λ a w n answer b said. said) (λ a w b reported. reported) (λ a w n c note b heeds. heeds) (λ a w first more b joins. joins) (λ k d text whole l t. record { tried = t.tried; appends = t.appends }) (λ k d text why l t. record { tried = t.tried; cut = t.cut }) first last run o
+      (λ a w n answer b said. said) (λ a w b reported. reported) (λ a w n c note b heeds. heeds) (λ a w first more b joins. joins) (λ k d text whole l t. record { tried = t.tried; appends = t.appends })
+      (λ k d text whole l t. record { tries = record { tried = t.tries.tried; appends = t.tries.appends }; front = t.front })
+      (λ k d text why l t. record { tried = t.tried; cut = t.cut }) first last run o
 
   pub lives : {D : Type 0} (k : Closable D) (disk later : D) (c d : C) (old new : W) (whole : Bool) (begun done : ByLines I) (stream : Option (List ℕ)) (run : Result (Unit {0}) RunFault) (answer : StrictAnswer)
       → lines_stand remaining begun ≡ first_lines m stream

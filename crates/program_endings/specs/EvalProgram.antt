@@ -29,6 +29,8 @@ use Rattle.program_endings.specs.LiveProgram.{FrameWithheld, EndsFaulted, FaultR
 use Rattle.program_endings.specs.StrictProgram.{stopped_after_text}
 use Rattle.program_endings.specs.Records.{ProgramPassage, ProgramRun, Streams, run_on, run_since, run_until, streams, text_after, text_before, view_given}
 use Rattle.program_endings.specs.declared.ending.Ending.{Ending}
+use Rattle.program_endings.specs.declared.eval_program.Missing.{Missing}
+use Rattle.program_endings.specs.declared.eval_program.Missing.TheVariants as missing
 
 -- what the program answers: after which field the evaluation stopped, if it did, and what it came to; or its fault
 abbrev pub EvaluationAnswer : Type 0
@@ -102,6 +104,15 @@ pub record EvaluatesTo {D C O P : Type 0} (o : EvalSetting P) (r : ProgramRun D 
 -- what stands last is written whole where both streams took what they had to, and it is nothing where the voice takes no memory
 abbrev pub FramedLast : {O : Type 0} → Voice → (O → Option (List ℕ)) → O → O → Bool → Boundary → Type 0
 FramedLast V contents old new reported last = (V.takes_memory ≡ false → new ≡ old) × (reported ≡ true → Appends (contents old) (contents new) (V.frame last))
+
+-- what isn't there, as a fault and as what stands last
+abbrev pub missing_fault : Missing → EvalFault
+missing_fault (missing.Field id) = evals.NoField id
+missing_fault (missing.Program name) = evals.NoProgram name
+
+abbrev pub missing_last : Missing → Boundary
+missing_last (missing.Field id) = boundary.NoField id
+missing_last (missing.Program name) = boundary.NoProgram name
 
 -- That the evaluation came to its end is printed last; or it couldn't be, and that is the fault, which is printed last.
 pub data LastOfEnd {O E : Type 0} (V : Voice) (s : Streams O E) (ending : Ending) (end : EvalEnd) : Type 0 where

@@ -9,7 +9,7 @@ ghost use Rattle.program_endings.specs.Records.{writing};
 ghost use Rattle.program_endings.specs.Passing.{passed, run};
 
 use crate::ending::ended;
-use crate::eval_program::end_without;
+use crate::eval_program::{Missing, end_without};
 use crate::live_program::end_reported;
 use crate::messages::NotEvaluated;
 use crate::passing::{GivenBack, Resources};
@@ -25,7 +25,7 @@ use sheet_check::{CheckFault, CheckManner, Checked, Progress, check};
 use sheet_files::{Close, FilesFault};
 use std::alloc::Global;
 use std::io::Write;
-use tellings::{Boundary, InJson};
+use tellings::InJson;
 
 /// How a check of one worksheet ended.
 #[derive(Clone, Copy, Debug, PartialEq, Eq)]
@@ -94,8 +94,7 @@ fn end_in_json<W: Write, E: Says>(
         Ok(passed) => end_program(Ok(passed), errors),
         Err(CheckFault::Run(why)) => end_reported(Err(why), &InJson { alloc }, output, errors),
         Err(CheckFault::NoField(id)) => end_without(
-            EvalFault::NoField(id),
-            Boundary::NoField(id),
+            Missing::Field(id),
             &InJson { alloc },
             output,
             errors,

@@ -2,7 +2,7 @@
 ghost use Rattle.std.specs.Prelude.{◌≡◌, Err, IfErr, IfOk, Ok, true};
 ghost use Rattle.evaluation.specs.declared.fault.EvalFault.TheVariants as evals;
 ghost use Rattle.field_agenda.specs.Stages.{IsEnded};
-ghost use Rattle.program_endings.specs.EvalProgram.{AnswersAfter, EndsEvaluated, EvaluatesTo, EvaluationBegun, EvaluationEnded, EvaluationOpened, FramedLast, LastOfEnd, LastOfFault, TellsEval, are_none_over, counts_status, eval_setting, evaluation_status};
+ghost use Rattle.program_endings.specs.EvalProgram.{AnswersAfter, EndsEvaluated, EvaluatesTo, EvaluationBegun, EvaluationEnded, EvaluationOpened, FramedLast, LastOfEnd, LastOfFault, TellsEval, are_none_over, counts_status, eval_setting, evaluation_status, missing_fault, missing_last};
 ghost use Rattle.program_endings.specs.Ending.{TellsFault};
 ghost use Rattle.program_endings.specs.LiveProgram.{EndsFaulted, LiveUnopened};
 ghost use Rattle.program_endings.specs.Records.{writing};
@@ -25,6 +25,7 @@ use sheet_files::Close;
 use std::alloc::Global;
 use std::io::Write;
 use tellings::{Boundary, Counts, Overs, Tells};
+use worksheet::Name;
 
 /// Whether no field's time was over, and none was passed over.
 fn are_none(overs: Option<Overs>) -> bool
@@ -130,21 +131,52 @@ fn end_evaluated<E: Says>(end: EvalEnd, errors: &mut E) -> Ending
     }
 }
 
+/// What an evaluation was to have that isn't there.
+#[derive(Clone, Copy, Debug, PartialEq, Eq)]
+pub(crate) enum Missing {
+    /// The field with this number.
+    Field(u32),
+    /// The program of this session.
+    Program(Name),
+}
+
+/// The fault that it is.
+fn fault_of(missing: Missing) -> EvalFault
+    ensures { result ≡ missing_fault missing }
+{
+    match missing {
+        Missing::Field(id) => EvalFault::NoField(id),
+        Missing::Program(name) => EvalFault::NoProgram(name),
+    }
+}
+
+/// What stands last for it.
+fn last_of(missing: Missing) -> Boundary
+    ensures { result ≡ missing_last missing }
+{
+    match missing {
+        Missing::Field(id) => Boundary::NoField(id),
+        Missing::Program(name) => Boundary::NoProgram(name),
+    }
+}
+
 /// Ends the program where a field or a program isn't there, which goes to both streams where its voice has it: as
 /// what stands last on one, and as its line on the other.
 pub(crate) fn end_without<W: Write, E: Says, T: Tells>(
-    why: EvalFault,
-    last: Boundary,
+    missing: Missing,
     tells: &T,
     output: &mut W,
     errors: &mut E,
 ) -> Ending
-    ensures last { FramedLast T.voice W.contents output.old output.new result.reported last }
+    ensures last { FramedLast T.voice W.contents output.old output.new result.reported
+        (missing_last missing) }
     ensures status { result.status ≡ 1 }
     ensures reported { TellsEval (⟦<E as Heard>⟧.said errors.old errors.new) result.reported
-        (Err why) }
+        (Err (missing_fault missing)) }
 {
+    let last = last_of(missing);
     let said = tells.frame(last, output).is_ok();
+    let why = fault_of(missing);
     let reported = errors.say(&NotEvaluated { why });
     ended(1, reported && said)
 }
@@ -204,20 +236,8 @@ fn end_faulty<W: Write, E: Says, T: Tells>(
         (Err fault) }
 {
     match fault {
-        EvalFault::NoField(id) => end_without(
-            EvalFault::NoField(id),
-            Boundary::NoField(id),
-            tells,
-            output,
-            errors,
-        ),
-        EvalFault::NoProgram(name) => end_without(
-            EvalFault::NoProgram(name),
-            Boundary::NoProgram(name),
-            tells,
-            output,
-            errors,
-        ),
+        EvalFault::NoField(id) => end_without(Missing::Field(id), tells, output, errors),
+        EvalFault::NoProgram(name) => end_without(Missing::Program(name), tells, output, errors),
         EvalFault::Run(why) => end_broken(why, whole, tells, output, errors),
     }
 }

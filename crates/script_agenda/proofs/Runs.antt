@@ -37,7 +37,9 @@ module _ {C : Type 0} (held : Option (List ℕ) → DiskView → Type 0) (s : So
       over_seen given_rules script_rules (λ (k : PrintedSoFar). k.text)
       (λ (k : PrintedSoFar) (disk : DiskView) (text : List ℕ) (whole : Bool) (l : PrintedSoFar). held k.text disk × (l.whole ≡ whole)) script_stand
       (λ (k : PrintedSoFar). k)
-      (λ a w n r b said. said) (λ a w b reported. reported) (λ a w n c note b heeds. heeds) (λ a w first more b joins. joins) (λ k d text whole l t. record { tried = t.tried; appends = t.appends }) (λ k d text why l t. record { tried = t.tried; cut = t.cut }) first last run o
+      (λ a w n r b said. said) (λ a w b reported. reported) (λ a w n c note b heeds. heeds) (λ a w first more b joins. joins) (λ k d text whole l t. record { tried = t.tried; appends = t.appends })
+      (λ k d text whole l t. record { tries = record { tried = t.tries.tried; appends = t.tries.appends }; front = t.front })
+      (λ k d text why l t. record { tried = t.tried; cut = t.cut }) first last run o
 
   pub ran_script : (strict : Bool) (script : List ℕ) (disk later : DiskView) (c d : C) (before after : Option (List ℕ)) (whole : Bool) (begun done : ByScript) (run : Result (Unit {0}) RunFault) (answer : Result (Option ℕ) RunFault)
       → script_stand begun ≡ script_begun (script_lines script) strict

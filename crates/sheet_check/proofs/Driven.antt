@@ -14,7 +14,7 @@ use Rattle.session_engine.specs.Host.{HostView, IsHost}
 use Rattle.child_edge.specs.Faithful.{at}
 use Rattle.child_edge.specs.Reported.{spoken}
 use Rattle.offline_programs.specs.declared.fault.RunFault.{RunFault}
-use Rattle.tellings.specs.Voice.{CutShort, numbered_text}
+use Rattle.tellings.specs.Voice.{CutShort, WroteFront, numbered_text}
 use Rattle.driver.specs.declared.report.Show.TheVariants as show
 use Rattle.driver.specs.Items.{Item, RunStep, after_fault, ask, halt, print_fault}
 use Rattle.driver.specs.Place.{RunPlace, Tries}
@@ -92,13 +92,16 @@ says_marks k l disk text marks (Err why) is kept = record { tried = tt; appends 
 pub cut_marks : (k l : Marks) (text : List ℕ) (marks : List Mark) (r : Result (Unit {0}) RunFault) → text ≡ numbers_of marks → IfErr r (λ why. KeptFront k.kept l.kept marks)
     → IfErr r (CutShort false (Some (numbers_of k.kept)) (Some (numbers_of l.kept)) text)
 cut_marks k l text marks (Ok done) is cut = tt
-cut_marks k l text marks (Err why) is cut = λ lacks. record {
-  front = numbers_of cut.front;
-  rest = numbers_of cut.rest;
-  split = sym (numbers-more cut.front cut.rest) ∙ ap numbers_of cut.split ∙ sym is;
-  lines = λ so. absurd (true≢false (sym so));
-  wrote = ap numbers_of cut.kept ∙ numbers-more k.kept cut.front;
-}
+cut_marks k l text marks (Err why) is cut = record { lacked = λ lacks. front; broken = λ broke so. absurd (true≢false (sym so)) }
+  where
+    front : WroteFront false (Some (numbers_of k.kept)) (Some (numbers_of l.kept)) text
+    front = record {
+      front = numbers_of cut.front;
+      rest = numbers_of cut.rest;
+      split = sym (numbers-more cut.front cut.rest) ∙ ap numbers_of cut.split ∙ sym is;
+      lines = λ so. absurd (true≢false (sym so));
+      wrote = ap numbers_of cut.kept ∙ numbers-more k.kept cut.front;
+    }
 
 pub none_kept : (k l : Marks) (marks : List Mark) (r : Result (Unit {0}) RunFault) → IfErr r (λ why. l.kept ≡ k.kept) → IfErr r (λ why. KeptFront k.kept l.kept marks)
 none_kept k l marks (Ok done) same = tt

@@ -16,7 +16,6 @@ use disk_model::Disk;
 use host_events::HostFault;
 use offline_programs::RunFault;
 use session_engine::Host;
-use session_engine::host::LifeView;
 use sheet_json::Took;
 use std::alloc::{AllocError, Global};
 use worksheet::{Field, Name};
@@ -69,18 +68,11 @@ fn one_id(alloc: Global, id: u32) -> Result<Vec<u32>, AllocError>
     Ok(ids)
 }
 
-/// Whether no life is given.
-fn is_none(life: Option<LifeView>) -> bool
-    ensures { result ≡ not (is_some life) }
-{
-    life.is_none()
-}
-
 /// Whether no interpreter of a session is there.
 fn is_down<D: Disk>(host: &Host<D>, session: Name) -> bool
     ensures { (w : World) → IsHost host.now w → result ≡ not (is_some (life_of w session)) }
 {
-    is_none(host.life(session))
+    host.life(session).is_none()
 }
 
 /// What an evaluation came to.

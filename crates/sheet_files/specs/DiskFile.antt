@@ -89,9 +89,9 @@ abbrev pub Loses : {T : Type 0} → Result T Error → FileView → FileView →
 Loses result old new = MatchResult result (λ _. new.lost ≡ old.lost)
     (λ error. HadNothingToSync old.reads_only error → new.lost ≡ old.lost)
 
--- the view of a file of which nothing is claimed, but whether it was opened to read alone
-abbrev pub unclaimed_file : Bool → FileView
-unclaimed_file reads_only = record {
+-- the view of a file of the system: nothing is claimed of it, but whether it was opened to read alone
+abbrev pub real_file : Bool → FileView
+real_file reads_only = record {
   keeps_model = false;
   reads_only = reads_only;
   lost = false;

@@ -2,7 +2,7 @@
 ghost use Rattle.std.specs.Prelude.{◌≡◌, ◌+◌, ◌≤◌, ℕ, List, Result, length, take, drop, IfOk, OnOk, false};
 ghost use Rattle.std.specs.declared.io.Error.{Error};
 ghost use Rattle.disk_model.specs.Disk.{greatest_room};
-ghost use Rattle.sheet_files.specs.DiskFile.{FileView, FileImage, FileSyncs, FileWrites, InFile, IsFresh, IsStill, Loses, Now, Passes, unclaimed_file};
+ghost use Rattle.sheet_files.specs.DiskFile.{FileView, FileImage, FileSyncs, FileWrites, InFile, IsFresh, IsStill, Loses, Now, Passes, real_file};
 
 use crate::SystemFile;
 use std::io;
@@ -106,7 +106,7 @@ impl<F: SystemFile + Drop> DiskFile for OpenedFile<F> {
     ghost use Rattle.std.specs.Prelude.{◌≡◌, Ok};
     ghost use Rattle.disk_model.specs.Disk.{unclaimed};
 
-    ghost view = { λ opened. unclaimed_file opened.reads_only };
+    ghost view = { λ opened. real_file opened.reads_only };
 
     ghost measured = { λ old result new. F.measures old.file result new.file };
 

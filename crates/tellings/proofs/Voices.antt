@@ -4,7 +4,7 @@ use Rattle.std.specs.List.{flat_map}
 use Rattle.std.proofs.KnownBytes.{Appends-trans}
 use Rattle.std.proofs.lemmas.List.{drop_more, take_more}
 use Rattle.std.proofs.lemmas.Grind.{flat_map-append}
-use Rattle.std.specs.Prelude.{OnOk, Result, option_map}
+use Rattle.std.specs.Prelude.{Result, option_map}
 use Rattle.std.specs.Io.KnownBytes.{Appends}
 use Rattle.worksheet.specs.Contents.{Contents}
 use Rattle.host_events.specs.declared.outcome.Outcome.{Outcome}
@@ -16,14 +16,14 @@ use Rattle.sheet_json.specs.Sheets.{telling_line}
 use Rattle.sheet_json.specs.Tellings.{EventReported, Telling}
 use Rattle.sheet_json.specs.Tellings as reported
 use Rattle.tellings.specs.Json.{event_line}
-use Rattle.tellings.specs.Voice.{AreLines, KeepsToLines, Voice, WroteFront, numbered_text}
+use Rattle.tellings.specs.Voice.{AreLines, CutShort, KeepsToLines, Voice, WroteLine, numbered_text}
 use Rattle.tellings.specs.inside.Lines.{lines_joined}
-use Rattle.tellings.proofs.Cut.{front_ahead}
+use Rattle.tellings.proofs.Cut.{cut_ahead}
 use Rattle.tellings.proofs.Rows.{Written, part_written}
 
 -- a value of a life, where there is one, is on its line
 pub line_if : (r : Result (Unit {0}) RunFault) (a b : Option (List ℕ)) (d : Data) (session : List ℕ) (life : ℕ) (e : Option EventReported) → Some d ≡ option_map (event_data session life) e
-    → ((t : Telling) → d ≡ telling_data t → OnOk r (Appends a b (telling_line t))) → OnOk r (Appends a b (event_line session life e))
+    → ((t : Telling) → d ≡ telling_data t → WroteLine r a b (telling_line t)) → WroteLine r a b (event_line session life e)
 line_if r a b d session life None is wrote = absurd (no is)
   where
     no : Some d ≡ None → ⊥
@@ -79,10 +79,10 @@ replies_in_lines V lines sheet first [] = inl refl
 replies_in_lines V lines sheet first (o ∷ outcomes) =
     lines_joined (V.reply first sheet o.reply) (numbered_text V (first + 1) sheet outcomes) (lines first sheet o.reply) (replies_in_lines V lines sheet (first + 1) outcomes)
 
-pub cut_outcome : (V : Voice) (sheet : Contents) (first : ℕ) (outcomes : List Outcome) (i : ℕ) (o : Outcome) (a b c : Option (List ℕ)) → KeepsToLines V → i < length outcomes
-    → o ≡ get_or outcomes i o → OutcomesWritten V sheet first outcomes i a b → WroteFront V.in_lines b c (V.reply (first + i) sheet o.reply)
-    → WroteFront V.in_lines a c (numbered_text V first sheet outcomes)
-cut_outcome V sheet first outcomes i o a b c keeps h is before more =
-    front_ahead V.in_lines a b c (numbered_text V (first + i) sheet (drop i outcomes)) (V.reply (first + i) sheet o.reply)
-    (numbered_text V (first + (i + 1)) sheet (drop (i + 1) outcomes)) (numbered_text V first sheet outcomes) (numbered_text V first sheet (take i outcomes))
+pub cut_outcome : (V : Voice) (sheet : Contents) (first : ℕ) (outcomes : List Outcome) (i : ℕ) (o : Outcome) (a b c : Option (List ℕ)) (why : RunFault) → KeepsToLines V → i < length outcomes
+    → o ≡ get_or outcomes i o → OutcomesWritten V sheet first outcomes i a b → CutShort V.in_lines b c (V.reply (first + i) sheet o.reply) why
+    → CutShort V.in_lines a c (numbered_text V first sheet outcomes) why
+cut_outcome V sheet first outcomes i o a b c why keeps h is before more =
+    cut_ahead V.in_lines a b c (numbered_text V (first + i) sheet (drop i outcomes)) (V.reply (first + i) sheet o.reply)
+    (numbered_text V (first + (i + 1)) sheet (drop (i + 1) outcomes)) (numbered_text V first sheet outcomes) (numbered_text V first sheet (take i outcomes)) why
     (outcome_ahead V sheet first outcomes i o h is) (replies_split V sheet first i outcomes) (λ so. replies_in_lines V (keeps.reply so) sheet first (take i outcomes)) before more

@@ -1,5 +1,5 @@
 -- A format of what is printed of a live worksheet: in words, or as JSON.
-use Rattle.std.specs.Prelude.{◌≡◌, ◌⊎◌, ℕ, ◌+◌, Bool, true, List, [], ◌∷◌, ◌++◌, Option, codes}
+use Rattle.std.specs.Prelude.{◌≡◌, ◌⊎◌, ℕ, ◌+◌, Bool, false, true, List, [], ◌∷◌, ◌++◌, MatchResult, Option, Result, codes}
 use Rattle.std.specs.Io.KnownBytes.{Appends}
 use Rattle.std.specs.List.{flat_map}
 use Rattle.worksheet.specs.Contents.{Contents}
@@ -64,9 +64,18 @@ pub record WroteFront (in_lines : Bool) (old new : Option (List ℕ)) (text : Li
   pub lines : in_lines ≡ true → AreLines front
   pub wrote : Appends old new front
 
--- what was written of a text for which there was no memory
-abbrev pub CutShort : Bool → Option (List ℕ) → Option (List ℕ) → List ℕ → RunFault → Type 0
-CutShort in_lines old new text why = why ≡ fault.OutOfMemory → WroteFront in_lines old new text
+-- what was written of a text where the writer failed: of a voice that writes in lines a beginning of it
+abbrev pub BrokenOff : Bool → Option (List ℕ) → Option (List ℕ) → List ℕ → RunFault → Type 0
+BrokenOff in_lines old new text why = why ≡ fault.Output → in_lines ≡ true → WroteFront false old new text
+
+-- What was written of a text, and not whole: where there was no memory for it, and where the writer failed.
+pub record CutShort (in_lines : Bool) (old new : Option (List ℕ)) (text : List ℕ) (why : RunFault) : Type 0 where
+  pub lacked : why ≡ fault.OutOfMemory → WroteFront in_lines old new text
+  pub broken : BrokenOff in_lines old new text why
+
+-- what was written of a line of JSON: all of it, or, where the writer failed, a beginning of it
+abbrev pub WroteLine : Result (Unit {0}) RunFault → Option (List ℕ) → Option (List ℕ) → List ℕ → Type 0
+WroteLine result old new text = MatchResult result (λ _. Appends old new text) (BrokenOff true old new text)
 
 -- nothing was written where there was no memory for the text
 abbrev pub Unwritten : {W : Type 0} → W → W → RunFault → Type 0

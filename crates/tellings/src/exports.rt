@@ -4,7 +4,7 @@ ghost use Rattle.std.specs.Option.{option_map};
 ghost use Rattle.std.specs.Io.KnownBytes.{Appends};
 ghost use Rattle.sheet_export.specs.Formats as exports;
 ghost use Rattle.tellings.specs.Json.{exported_json, in_json, text_reported};
-ghost use Rattle.tellings.specs.Voice.{IsWithheld, Unwritten};
+ghost use Rattle.tellings.specs.Voice.{IsWithheld, Unwritten, WroteLine};
 ghost use Rattle.tellings.specs.Words.{exported_words, needs_json};
 
 use crate::writing::write_made;
@@ -114,8 +114,8 @@ pub(crate) fn write_exported<W: Write>(
     sheet: &Sheet,
     writer: &mut W,
 ) -> Result<(), RunFault>
-    ensures ok { OnOk result (Appends (W.contents writer.old) (W.contents writer.new)
-        (exported_json line format sheet.now.contents)) }
+    ensures wrote { WroteLine result (W.contents writer.old) (W.contents writer.new)
+        (exported_json line format sheet.now.contents) }
     ensures err { IfErr result (IsWithheld in_json) }
     ensures unwritten { IfErr result (Unwritten writer.old writer.new) }
 {

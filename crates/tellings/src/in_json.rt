@@ -5,7 +5,7 @@ ghost use Rattle.std.specs.Io.KnownBytes.{Appends};
 ghost use Rattle.tellings.specs.Json as texts;
 ghost use Rattle.session_engine.specs.World.{World};
 ghost use Rattle.session_engine.specs.Host.{IsHost};
-ghost use Rattle.tellings.specs.Voice.{CutShort, IsWithheld, Unwritten, lives_text, numbered_text};
+ghost use Rattle.tellings.specs.Voice.{CutShort, IsWithheld, Unwritten, WroteLine, lives_text, numbered_text};
 ghost use Rattle.worksheet.specs.Contents.{Contents};
 
 use crate::exports::write_exported;
@@ -41,8 +41,8 @@ fn write_closed<W: Write>(
     child: &ChildReply,
     writer: &mut W,
 ) -> Result<(), RunFault>
-    ensures ok { OnOk result (Appends (W.contents writer.old) (W.contents writer.new)
-        (texts.closed_json sheet.now.contents (option_copied next.entry) child.now)) }
+    ensures wrote { WroteLine result (W.contents writer.old) (W.contents writer.new)
+        (texts.closed_json sheet.now.contents (option_copied next.entry) child.now) }
     ensures err { IfErr result (IsWithheld texts.in_json) }
     ensures unwritten { IfErr result (Unwritten writer.old writer.new) }
 {
@@ -65,8 +65,8 @@ fn write_default<W: Write>(
     child: &ChildReply,
     writer: &mut W,
 ) -> Result<(), RunFault>
-    ensures ok { OnOk result (Appends (W.contents writer.old) (W.contents writer.new)
-        (texts.default_json child.now)) }
+    ensures wrote { WroteLine result (W.contents writer.old) (W.contents writer.new)
+        (texts.default_json child.now) }
     ensures err { IfErr result (IsWithheld texts.in_json) }
     ensures unwritten { IfErr result (Unwritten writer.old writer.new) }
 {
@@ -85,8 +85,8 @@ fn write_default<W: Write>(
 
 /// The end of the life, where it ended.
 fn write_ended<W: Write>(alloc: Global, child: &ChildReply, writer: &mut W) -> Result<(), RunFault>
-    ensures ok { OnOk result (Appends (W.contents writer.old) (W.contents writer.new)
-        (texts.ended_json child.now)) }
+    ensures wrote { WroteLine result (W.contents writer.old) (W.contents writer.new)
+        (texts.ended_json child.now) }
     ensures err { IfErr result (IsWithheld texts.in_json) }
     ensures unwritten { IfErr result (Unwritten writer.old writer.new) }
 {
@@ -173,8 +173,8 @@ fn write_stopped<W: Write>(
     child: &ChildReply,
     writer: &mut W,
 ) -> Result<(), RunFault>
-    ensures ok { OnOk result (Appends (W.contents writer.old) (W.contents writer.new)
-        (texts.stopped_json line child.now)) }
+    ensures wrote { WroteLine result (W.contents writer.old) (W.contents writer.new)
+        (texts.stopped_json line child.now) }
     ensures err { IfErr result (IsWithheld texts.in_json) }
     ensures unwritten { IfErr result (Unwritten writer.old writer.new) }
 {
@@ -195,8 +195,8 @@ fn write_reply<W: Write>(
     reply: &Reply,
     writer: &mut W,
 ) -> Result<(), RunFault>
-    ensures ok { OnOk result (Appends (W.contents writer.old) (W.contents writer.new)
-        (texts.reply_json line reply.now)) }
+    ensures wrote { WroteLine result (W.contents writer.old) (W.contents writer.new)
+        (texts.reply_json line reply.now) }
     ensures err { IfErr result (IsWithheld texts.in_json) }
     ensures unwritten { IfErr result (Unwritten writer.old writer.new) }
 {
@@ -236,8 +236,8 @@ fn write_outcomes<W: Write>(
 
 /// What stands first or last.
 fn write_frame<W: Write>(alloc: Global, frame: Boundary, writer: &mut W) -> Result<(), RunFault>
-    ensures ok { OnOk result (Appends (W.contents writer.old) (W.contents writer.new)
-        (texts.frame_json frame)) }
+    ensures wrote { WroteLine result (W.contents writer.old) (W.contents writer.new)
+        (texts.frame_json frame) }
     ensures err { IfErr result (IsWithheld texts.in_json) }
     ensures unwritten { IfErr result (Unwritten writer.old writer.new) }
 {
@@ -255,13 +255,16 @@ fn write_frame<W: Write>(alloc: Global, frame: Boundary, writer: &mut W) -> Resu
 
 /// A fault.
 fn write_fault<W: Write>(alloc: Global, why: RunFault, writer: &mut W) -> Result<(), RunFault>
-    ensures ok { OnOk result (Appends (W.contents writer.old) (W.contents writer.new)
-        (texts.fault_json why)) }
+    ensures wrote { WroteLine result (W.contents writer.old) (W.contents writer.new)
+        (texts.fault_json why) }
+    ensures err { IfErr result (IsWithheld texts.in_json) }
+    ensures unwritten { IfErr result (Unwritten writer.old writer.new) }
 {
     let (number, name, offset) = (faults::number(why), faults::name(why), faults::offset(why));
     write_made(alloc, fault_value(alloc, number, name, offset), writer)
 }
 
+#[tactic(auto, using(crate::proofs::Cut::cut_steps))]
 impl Tells for InJson {
     ghost use Rattle.tellings.specs.Json.{in_json};
     ghost use Rattle.tellings.specs.inside.Lines.{json_in_lines};

@@ -220,6 +220,7 @@ fn tell_counts<W: Write>(counts: Counts, writer: &mut W) -> Result<(), RunFault>
     Ok(())
 }
 
+#[tactic(auto, using(crate::proofs::Cut::cut_steps))]
 impl Tells for InWords {
     ghost use Rattle.tellings.specs.Words.{in_words};
     ghost use Rattle.tellings.specs.inside.Lines.{words_in_no_lines};

@@ -1,8 +1,7 @@
 //! What is printed once, as lines of JSON.
-ghost use Rattle.std.specs.Prelude.{◌≡◌, IfErr, OnOk};
-ghost use Rattle.std.specs.Io.KnownBytes.{Appends};
+ghost use Rattle.std.specs.Prelude.{◌≡◌, IfErr};
 ghost use Rattle.tellings.specs.Json as texts;
-ghost use Rattle.tellings.specs.Voice.{IsWithheld, Unwritten};
+ghost use Rattle.tellings.specs.Voice.{IsWithheld, Unwritten, WroteLine};
 
 use crate::writing::write_made;
 use crate::{Counts, Note};
@@ -35,8 +34,8 @@ fn write_warned<W: Write>(
     reported: Interrupted,
     writer: &mut W,
 ) -> Result<(), RunFault>
-    ensures ok { OnOk result (Appends (W.contents writer.old) (W.contents writer.new)
-        (texts.warned_json seat reported)) }
+    ensures wrote { WroteLine result (W.contents writer.old) (W.contents writer.new)
+        (texts.warned_json seat reported) }
     ensures err { IfErr result (IsWithheld texts.in_json) }
     ensures unwritten { IfErr result (Unwritten writer.old writer.new) }
 {
@@ -51,8 +50,8 @@ fn write_interrupt<W: Write>(
     reported: Interrupted,
     writer: &mut W,
 ) -> Result<(), RunFault>
-    ensures ok { OnOk result (Appends (W.contents writer.old) (W.contents writer.new)
-        (texts.interrupt_json line reported)) }
+    ensures wrote { WroteLine result (W.contents writer.old) (W.contents writer.new)
+        (texts.interrupt_json line reported) }
     ensures err { IfErr result (IsWithheld texts.in_json) }
     ensures unwritten { IfErr result (Unwritten writer.old writer.new) }
 {
@@ -72,8 +71,8 @@ fn write_interrupt<W: Write>(
 
 /// Writes what an evaluation came to.
 fn write_counts<W: Write>(alloc: Global, counts: Counts, writer: &mut W) -> Result<(), RunFault>
-    ensures ok { OnOk result (Appends (W.contents writer.old) (W.contents writer.new)
-        (texts.counted_json counts counts.overs)) }
+    ensures wrote { WroteLine result (W.contents writer.old) (W.contents writer.new)
+        (texts.counted_json counts counts.overs) }
     ensures err { IfErr result (IsWithheld texts.in_json) }
     ensures unwritten { IfErr result (Unwritten writer.old writer.new) }
 {
@@ -98,8 +97,8 @@ pub(crate) fn write_note<W: Write>(
     note: Note,
     writer: &mut W,
 ) -> Result<(), RunFault>
-    ensures ok { OnOk result (Appends (W.contents writer.old) (W.contents writer.new)
-        (texts.note_json note)) }
+    ensures wrote { WroteLine result (W.contents writer.old) (W.contents writer.new)
+        (texts.note_json note) }
     ensures err { IfErr result (IsWithheld texts.in_json) }
     ensures unwritten { IfErr result (Unwritten writer.old writer.new) }
 {

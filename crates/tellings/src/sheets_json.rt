@@ -9,7 +9,7 @@ ghost use Rattle.session_engine.specs.Host.{IsHost};
 ghost use Rattle.worksheet.specs.Checks.{field_in};
 ghost use Rattle.sheet_json.specs.Objects.{session_data, telling_data};
 ghost use Rattle.tellings.specs.Json as texts;
-ghost use Rattle.tellings.specs.Voice.{CutShort, IsWithheld, Unwritten};
+ghost use Rattle.tellings.specs.Voice.{CutShort, IsWithheld, Unwritten, WroteLine};
 
 use crate::writing::write_made;
 use disk_model::Disk;
@@ -30,9 +30,9 @@ fn write_part<D: Disk, W: Write>(
     field: &Field,
     writer: &mut W,
 ) -> Result<(), RunFault>
-    ensures ok { (w : World) → IsHost host.now w
-        → OnOk result (Appends (W.contents writer.old) (W.contents writer.new)
-        (texts.part_line line w field.now)) }
+    ensures wrote { (w : World) → IsHost host.now w
+        → WroteLine result (W.contents writer.old) (W.contents writer.new)
+        (texts.part_line line w field.now) }
     ensures err { IfErr result (IsWithheld texts.in_json) }
     ensures unwritten { IfErr result (Unwritten writer.old writer.new) }
 {
@@ -143,9 +143,9 @@ pub(crate) fn write_field<D: Disk, W: Write>(
     host: &Host<D>,
     writer: &mut W,
 ) -> Result<(), RunFault>
-    ensures ok { (w : World) → IsHost host.now w
-        → OnOk result (Appends (W.contents writer.old) (W.contents writer.new)
-        (texts.field_json line w (field_in (sheet_in w).fields id))) }
+    ensures wrote { (w : World) → IsHost host.now w
+        → WroteLine result (W.contents writer.old) (W.contents writer.new)
+        (texts.field_json line w (field_in (sheet_in w).fields id)) }
     ensures err { IfErr result (IsWithheld texts.in_json) }
     ensures unwritten { IfErr result (Unwritten writer.old writer.new) }
 {

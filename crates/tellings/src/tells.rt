@@ -10,14 +10,14 @@ use worksheet::Sheet;
 
 /// A format of what is printed. Each call but `lives` flushes what it writes.
 ///
-/// `Output` where the writer fails: a part may have gone out, and no clause says which. `OutOfMemory` where a voice that takes memory
-/// has none for a line: the lines before it went out, and nothing else.
+/// `Output` where the writer fails: of a voice that writes in lines a beginning of the text went out, of another one a part, and no clause says
+/// which. `OutOfMemory` where a voice that takes memory has none for a line: the lines before it went out, and nothing else.
 pub trait Tells {
     ghost use Rattle.std.specs.Prelude.{IfErr, OnOk, ◌≡◌, ◌+◌, ◌<◌, ◌^◌, false, length, true};
     ghost use Rattle.std.specs.Io.KnownBytes.{Appends};
     ghost use Rattle.session_engine.specs.World.{World};
     ghost use Rattle.session_engine.specs.Host.{IsHost};
-    ghost use Rattle.tellings.specs.Voice.{CutShort, IsWithheld, KeepsToLines, Unwritten, Voice, lives_text, numbered_text};
+    ghost use Rattle.tellings.specs.Voice.{CutShort, IsWithheld, KeepsToLines, Unwritten, Voice, WroteFront, lives_text, numbered_text};
 
     /// The texts that it writes.
     ghost voice: { Voice };
@@ -31,6 +31,8 @@ pub trait Tells {
             (voice.frame frame)) }
         ensures still { voice.takes_memory ≡ false → writer.new ≡ writer.old }
         ensures err { IfErr result (λ why. (voice.takes_memory ≡ true) × IsWithheld voice why) }
+        ensures cut { IfErr result (CutShort voice.in_lines (W.contents writer.old) (W.contents writer.new)
+            (voice.frame frame)) }
         ensures unwritten { IfErr result (Unwritten writer.old writer.new) };
 
     /// Tells what comes of a line, or of a wait, apart from replies.
@@ -38,6 +40,8 @@ pub trait Tells {
         ensures ok { OnOk result (Appends (W.contents writer.old) (W.contents writer.new)
             (voice.note note)) }
         ensures err { IfErr result (IsWithheld voice) }
+        ensures cut { IfErr result (CutShort voice.in_lines (W.contents writer.old) (W.contents writer.new)
+            (voice.note note)) }
         ensures unwritten { IfErr result (Unwritten writer.old writer.new) };
 
     /// Tells what commands gave that were taken together, one on each line from this one on, where this is the
@@ -114,6 +118,9 @@ pub trait Tells {
             → OnOk result (Appends (W.contents writer.old) (W.contents writer.new)
             (voice.field line id w)) }
         ensures err { IfErr result (IsWithheld voice) }
+        ensures cut { (w : World) → IsHost host.now w
+            → IfErr result (CutShort voice.in_lines (W.contents writer.old) (W.contents writer.new)
+            (voice.field line id w)) }
         ensures unwritten { IfErr result (Unwritten writer.old writer.new) };
 
     /// Tells this worksheet in a format, for which this line asks, or that it isn't written in it.
@@ -127,11 +134,15 @@ pub trait Tells {
         ensures ok { OnOk result (Appends (W.contents writer.old) (W.contents writer.new)
             (voice.exported line format sheet.now.contents)) }
         ensures err { IfErr result (IsWithheld voice) }
+        ensures cut { IfErr result (CutShort voice.in_lines (W.contents writer.old) (W.contents writer.new)
+            (voice.exported line format sheet.now.contents)) }
         ensures unwritten { IfErr result (Unwritten writer.old writer.new) };
 
     /// Tells a fault, last of all, and whether that went out.
     fn fault<W: Write>(&self, why: RunFault, writer: &mut W) -> bool
         ensures reported { result ≡ true
             → Appends (W.contents writer.old) (W.contents writer.new) (voice.fault why) }
+        ensures front { voice.in_lines ≡ true → WroteFront false (W.contents writer.old) (W.contents writer.new)
+            (voice.fault why) }
         ensures still { voice.takes_memory ≡ false → writer.new ≡ writer.old };
 }

@@ -17,7 +17,7 @@ use Rattle.host_events.specs.declared.event.Event.{Event}
 use Rattle.session_engine.specs.Host.{HostGivesSheet, HostView}
 use Rattle.host_laws.specs.Turns.{AnsweredIn, Has, HostTurn, KeepField, LeftInTurn}
 use Rattle.theorem.specs.Story.{CrashedSince}
-use Rattle.theorem.specs.Copies.{IsEvaluating, PutIn, PutsWhole, WholeOnCopy}
+use Rattle.theorem.specs.Copies.{IsEvalOrChild, PutIn, PutsWhole, WholeOnCopy}
 use Rattle.theorem.specs.Programs.{Invocations}
 
 -- What was done by one invocation or several: hosts had turns; or answers were put in, of which these were reported.
@@ -41,7 +41,7 @@ pub record Files (before : Image) (disk : DiskView) (ops : List Op) (put : PutIn
   pub keeps_model : IsTrue disk.keeps_model
   pub read : bytes_on disk ≡ before
   pub found : IsSheetImage (sheet_of ops) before
-  pub evaluating : AllByRecursion IsEvaluating put.given
+  pub evaluating : AllByRecursion IsEvalOrChild put.given
   pub answers : AllByRecursion (PutsWhole (sheet_of ops) put.given) put.ops
   pub from : AllowedFrom ops put.ops
   pub now : DiskView

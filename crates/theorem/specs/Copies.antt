@@ -31,12 +31,12 @@ Evaluates (command.Eval id) = Unit {0}
 Evaluates _ = ⊥
 
 -- such a command, or what came from an interpreter
-abbrev pub IsEvaluating : Event → Type 0
-IsEvaluating (event.Command c) = Evaluates c
-IsEvaluating (event.Child name number c) = Unit {0}
+abbrev pub IsEvalOrChild : Event → Type 0
+IsEvalOrChild (event.Command c) = Evaluates c
+IsEvalOrChild (event.Child name number c) = Unit {0}
 
 -- From the world of a host that is opened on a copy of this worksheet the first of these events led to that world, by these steps.
-pub record HostOnCopy (sheet : Contents) (given : List Event) : Type 0 where
+pub record StepsOnCopy (sheet : Contents) (given : List Event) : Type 0 where
   pub copied : List Op
   pub allowed : Allowed copied
   pub same : sheet_of copied ≡ sheet
@@ -53,7 +53,7 @@ pub record HostOnCopy (sheet : Contents) (given : List Event) : Type 0 where
 -- The field shows the output of a whole block, by which a step of a host on a copy of this worksheet closed the answer to the field's line. That host was given
 -- these events. On the copy the field with this number had the same session and input.
 pub record WholeOnCopy (sheet : Contents) (given : List Event) (f : Field) : Type 0 where
-  pub host : HostOnCopy sheet given
+  pub host : StepsOnCopy sheet given
   pub shown : Field
   pub number : shown.id ≡ f.id
   pub session : shown.session ≡ f.session

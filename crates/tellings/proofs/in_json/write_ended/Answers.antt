@@ -1,18 +1,17 @@
 use Rattle.std.proofs.Common.{sym, subst}
-use Rattle.std.specs.Prelude.{OnOk}
-use Rattle.std.specs.Io.KnownBytes.{Appends}
 use Rattle.std.specs.Prelude.{option_map}
 use Rattle.sheet_json.specs.Replies.{ended_event}
 use Rattle.sheet_json.specs.Sheets.{telling_line}
 use Rattle.sheet_json.specs.Tellings as reported
 use Rattle.tellings.specs.Json.{event_line}
+use Rattle.tellings.specs.Voice.{WroteLine}
 use Rattle.tellings.proofs.in_json.write_ended.Goals as goal
 
-pub returns-in-Some-clause-ok : goal.returns-in-Some-clause-ok
-returns-in-Some-clause-ok g c =
+pub returns-in-Some-clause-wrote : goal.returns-in-Some-clause-wrote
+returns-in-Some-clause-wrote g c =
     let child = c.args.child.now in
-    subst (λ x. OnOk c.write_made.result (Appends (g.W.Write.contents c.args.writer.now) (g.W.Write.contents c.write_made.new.writer)
-    (event_line child.name child.life (option_map ended_event x)))) (sym c.in-Some.is)
-    (subst (λ name. OnOk c.write_made.result (Appends (g.W.Write.contents c.args.writer.now) (g.W.Write.contents c.write_made.new.writer)
-    (telling_line (reported.event name child.life (ended_event c.in-Some.ended))))) c.as_slice-name.ensures.bytes
-    (c.write_made.ensures.ok (reported.event c.as_slice-name.result.now child.life (ended_event c.in-Some.ended)) c.ended_value-value.ensures))
+    subst (λ x. WroteLine c.write_made.result (g.W.Write.contents c.args.writer.now) (g.W.Write.contents c.write_made.new.writer)
+    (event_line child.name child.life (option_map ended_event x))) (sym c.in-Some.is)
+    (subst (λ name. WroteLine c.write_made.result (g.W.Write.contents c.args.writer.now) (g.W.Write.contents c.write_made.new.writer)
+    (telling_line (reported.event name child.life (ended_event c.in-Some.ended)))) c.as_slice-name.ensures.bytes
+    (c.write_made.ensures.wrote (reported.event c.as_slice-name.result.now child.life (ended_event c.in-Some.ended)) c.ended_value-value.ensures))

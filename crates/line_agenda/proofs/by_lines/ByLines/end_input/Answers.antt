@@ -9,12 +9,12 @@ use Rattle.line_agenda.proofs.by_lines.ByLines.end_input.Goals as goal
 pub returns-in-None : goal.returns-in-None
 returns-in-None g c =
     let before = lines_stand g.R.Read.remaining c.args.self.now in
-    let none = sym c.replace.ensures.value ∙ c.in-None.is in
-    subst (λ b. EndsInput b before action.End (with_transaction before c.replace.new.dest)) (sym none) (refl, ap (λ b. with_transaction before b) (c.replace.ensures.after ∙ sym none))
+    let none = sym c.take.ensures.value ∙ c.in-None.is in
+    subst (λ b. EndsInput b before action.End (with_transaction before c.take.new.self)) (sym none) (refl, ap (λ b. with_transaction before b) (c.take.ensures.after ∙ sym none))
 
 pub returns-in-Some : goal.returns-in-Some
 returns-in-Some g c =
     let before = lines_stand g.R.Read.remaining c.args.self.now in
-    let some = sym c.replace.ensures.value ∙ c.in-Some.is in
-    subst (λ b. EndsInput b before (action.Show (show.Note (note.Undone c.in-Some.transaction.first before.number))) (with_transaction (after_end before) c.replace.new.dest)) (sym some)
-    (refl, ap (λ b. with_transaction (after_end before) b) c.replace.ensures.after)
+    let some = sym c.take.ensures.value ∙ c.in-Some.is in
+    subst (λ b. EndsInput b before (action.Show (show.Note (note.Undone c.in-Some.transaction.first before.number))) (with_transaction (after_end before) c.take.new.self)) (sym some)
+    (refl, ap (λ b. with_transaction (after_end before) b) c.take.ensures.after)
