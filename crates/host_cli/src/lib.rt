@@ -14,7 +14,7 @@ mod refusing;
 mod runs;
 pub mod startup;
 mod tasks;
-pub mod terminal;
+mod terminal;
 mod waiting;
 
 pub use outlet::Outlet;

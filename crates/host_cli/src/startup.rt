@@ -1,9 +1,12 @@
 //! The program's words, and the system's streams, files and children, over which the rest of the crate does what
-//! the words ask for. `tmhost` and `programs` both begin with it.
-use crate::{Outside, PatientInput, PatientOutput, System};
+//! the words ask for. `tmhost` and `programs` are both run by it.
+use crate::terminal::{explain, is_new_taken, say_what_is_awaited};
+use crate::{Outside, PatientInput, PatientOutput, System, perform};
 use arrivals::Polled;
 use child_calls::Processes;
+use offline_programs::RunFault;
 use partial_output::Partial;
+use program_endings::end_program;
 use sheet_check::ProgressLine;
 use sheet_files::{ClosedStreams, FileDisk, FileNames, FilePlaces, OpenedFile};
 use std::alloc::AllocError;
@@ -11,6 +14,7 @@ use std::fs::File;
 use std::io::{BufWriter, ErrorKind, IsTerminal, Stderr, Stdout};
 use std::marker::PhantomData;
 use std::os::fd::AsRawFd;
+use std::process::ExitCode;
 
 /// How much of its output a program holds back at most, in bytes.
 const BUFFER: usize = 65_536;
@@ -65,7 +69,7 @@ fn progress(rt: &HostRuntime) -> ProgressLine<BufWriter<Stderr>> {
 /// The system's streams, files and children as one value, and the line of progress where the errors go to a terminal.
 ///
 /// `AllocError`: there was no memory for them.
-pub fn outside<'a>(rt: &'a HostRuntime) -> Result<Outside<Real<'a>>, AllocError> {
+fn outside<'a>(rt: &'a HostRuntime) -> Result<Outside<Real<'a>>, AllocError> {
     let closed = ClosedStreams::find(&rt.stdin(), &rt.stdout(), &rt.stderr());
     let output = PatientOutput::new(rt.stdout());
     let Ok(output) = BufWriter::with_capacity(rt.alloc(), BUFFER, output) else {
@@ -82,4 +86,17 @@ pub fn outside<'a>(rt: &'a HostRuntime) -> Result<Outside<Real<'a>>, AllocError>
         errors: PatientOutput::new(rt.stderr()),
         progress: progress(rt),
     })
+}
+
+/// The whole program over the system: does what these words ask for, says beside it what a person at a terminal
+/// reads, and gives the status with which the program ends.
+pub fn run_and_exit(rt: &HostRuntime, words: Result<Vec<String>, ErrorKind>) -> ExitCode {
+    say_what_is_awaited(rt);
+    let taken = is_new_taken(rt);
+    let ending = match outside(rt) {
+        Ok(outside) => perform(rt.alloc(), words, outside).ending,
+        Err(_) => end_program(Err(RunFault::OutOfMemory), &mut rt.stderr()),
+    };
+    explain(rt, ending.status, taken);
+    ExitCode::from(ending.status)
 }

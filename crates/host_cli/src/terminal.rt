@@ -53,7 +53,7 @@ fn awaited(rt: &HostRuntime, task: &Task<'_>) -> Option<&'static str> {
 }
 
 /// Says what the program waits for, where a person has to type it.
-pub fn say_what_is_awaited(rt: &HostRuntime) {
+pub(crate) fn say_what_is_awaited(rt: &HostRuntime) {
     if !rt.stdin().is_terminal() || !rt.stderr().is_terminal() {
         return;
     }
@@ -111,7 +111,7 @@ fn is_taken(rt: &HostRuntime, path: &str) -> bool {
 }
 
 /// Whether something has the name of a new worksheet that the program is to make. It is asked before the program does anything.
-pub fn is_new_taken(rt: &HostRuntime) -> bool {
+pub(crate) fn is_new_taken(rt: &HostRuntime) -> bool {
     let Ok(words) = words(rt) else {
         return false;
     };
@@ -183,7 +183,7 @@ fn is_asked_to_explain(rt: &HostRuntime) -> bool {
 /// Says on a terminal, or where the environment asks for it, why the files of a program with this status can't be had,
 /// where the system has a reason. It asks the system once more, so it says nothing where the reason is gone. `taken` is whether
 /// something had the name of a new worksheet before.
-pub fn explain(rt: &HostRuntime, status: u8, taken: bool) {
+pub(crate) fn explain(rt: &HostRuntime, status: u8, taken: bool) {
     if status != 1 || !(rt.stderr().is_terminal() || is_asked_to_explain(rt)) {
         return;
     }

@@ -5,8 +5,8 @@
 //! how a case is added.
 #![tactic(auto)]
 
-use host_cli::{perform, startup, terminal};
-use offline_programs::{RunFault, run_memory};
+use host_cli::startup;
+use offline_programs::run_memory;
 use program_endings::end_program;
 use std::io;
 use std::process::{Command, ExitCode};
@@ -60,12 +60,5 @@ fn main(rt: HostRuntime) -> ExitCode {
             Asked::Nothing => {}
         }
     }
-    terminal::say_what_is_awaited(&rt);
-    let taken = terminal::is_new_taken(&rt);
-    let ending = match startup::outside(&rt) {
-        Ok(outside) => perform(rt.alloc(), words, outside).ending,
-        Err(_) => end_program(Err(RunFault::OutOfMemory), &mut rt.stderr()),
-    };
-    terminal::explain(&rt, ending.status, taken);
-    ExitCode::from(ending.status)
+    startup::run_and_exit(&rt, words)
 }
