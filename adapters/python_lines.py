@@ -9,15 +9,18 @@ there, each with its kind and length before it, to the file VALUE. Then it write
 import ast
 import builtins
 import contextlib
+import io
 import linecache
 import os
 import re
 import signal
 import sys
+import tokenize
 import traceback
 import types
+import warnings
 import zlib
-from typing import Any, BinaryIO, Callable, Dict, List, NoReturn, Optional, Tuple, TypeVar
+from typing import Any, BinaryIO, Callable, Dict, List, NoReturn, Optional, Tuple, Type, TypeVar, Union
 
 import python_names
 import tmhost_figures
@@ -26,6 +29,7 @@ LONGEST = 8_000_000  # bytes of a value
 LONGEST_ERROR = 100_000  # bytes of an error
 NAMED = re.compile(r"<input [0-9a-f]{8}>")  # a line, as Python knows it
 INPUT, EARLIER = "<input>", "<earlier input>"  # in an error that a line gives: itself, and one before it
+NO_CODE = (tokenize.COMMENT, tokenize.NL, tokenize.NEWLINE, tokenize.INDENT, tokenize.DEDENT, tokenize.ENDMARKER)
 FORMULA = re.compile(r"\s*(\${1,2})([^$]+)\1\s*")
 
 Result = TypeVar("Result")
@@ -45,6 +49,14 @@ class Lines:
         self.errors: List[Shown] = []
         self.own = os.getpid()
         signal.signal(signal.SIGINT, self.interrupted)
+        own_warning = warnings.formatwarning
+
+        def warning(message: Union[Warning, str], category: Type[Warning], filename: str, lineno: int, line: Optional[str] = None) -> str:
+            """A warning as Python prints it, which names lines as their readers know them."""
+            code = linecache.getline(filename, lineno) if line is None else line
+            return own_warning(message, category, shown_name(filename, self.name), lineno, code)
+
+        warnings.formatwarning = warning
 
     def interrupted(self, number: int, frame: Optional[types.FrameType]) -> None:
         """SIGINT ends the line that runs, and nothing else."""
@@ -52,13 +64,14 @@ class Lines:
             raise KeyboardInterrupt
 
     def value_of(self, text: str) -> Any:
-        """Runs the statements, and gives the value of the last one where it is an expression."""
+        """Runs the statements, and gives the value of the last one where it is an expression that no semicolon follows."""
         self.name = name = name_of(text)
         linecache.cache[name] = (len(text), None, (text + "\n").splitlines(True), name)
         tree = ast.parse(text, name)
         last = tree.body.pop() if tree.body and isinstance(tree.body[-1], ast.Expr) else None
         exec(compile(tree, name, "exec"), self.names)
-        return eval(compile(ast.Expression(last.value), name, "eval"), self.names) if isinstance(last, ast.Expr) else None
+        value = eval(compile(ast.Expression(last.value), name, "eval"), self.names) if isinstance(last, ast.Expr) else None
+        return None if is_silent(text) else value
 
     def evaluated(self, text: str) -> List[Shown]:
         """The errors of a line, an exit() among them, its pictures, and its value."""
@@ -92,6 +105,14 @@ class Lines:
             self.errors.append(("error", as_bytes(error, LONGEST_ERROR).rstrip(b"\n")))
         else:
             print(error, end="", file=sys.stderr)
+
+
+def is_silent(text: str) -> bool:
+    """Whether code ends in a semicolon, after which remarks may stand: its value isn't shown then, as in IPython."""
+    with contextlib.suppress(tokenize.TokenError, SyntaxError):
+        words = [one.string for one in tokenize.generate_tokens(io.StringIO(text).readline) if one.type not in NO_CODE] if ";" in text else []
+        return words[-1:] == [";"]
+    return False
 
 
 def shown_of(value: Any) -> List[Shown]:

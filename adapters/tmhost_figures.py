@@ -68,14 +68,14 @@ def taken() -> List[bytes]:
 
 
 def bytes_of(figure: Any) -> bytes:
-    """A figure as SVG, or as PNG."""
+    """A figure as SVG, or as PNG. It is as large as what is drawn, as inline figures of Jupyter are, so that no label is cut off."""
     matplotlib: Any = sys.modules["matplotlib"]
     file = io.BytesIO()
     with matplotlib.rc_context({"svg.hashsalt": SALT}):
-        figure.savefig(file, format="svg", metadata={"Date": None})
+        figure.savefig(file, format="svg", bbox_inches="tight", metadata={"Date": None})
     if file.tell() > LONGEST_SVG:
         file = io.BytesIO()
-        figure.savefig(file, format="png")
+        figure.savefig(file, format="png", bbox_inches="tight")
     return file.getvalue()
 
 

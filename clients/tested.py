@@ -1,7 +1,6 @@
-"""What tests of clients share: the program that they run over, which TMHOST names, or is on PATH, or was built here; what is in a worksheet; processes; a folder."""
+"""What tests of clients share: the program that they run over, as found.py finds it; what is in a worksheet; processes; a folder."""
 
 import os
-import shutil
 import signal
 import subprocess
 import sys
@@ -9,8 +8,9 @@ import time
 import unittest
 from typing import List
 
-CLIENTS = os.path.dirname(os.path.realpath(__file__))
-PROGRAM = os.environ.get("TMHOST") or shutil.which("tmhost") or os.path.join(os.path.dirname(CLIENTS), "crates/tmhost/out/tmhost")
+from found import BUILT, CLIENTS, find_program
+
+PROGRAM = find_program() or BUILT[0]
 
 sys.path.insert(0, os.path.join(CLIENTS, "python"))
 from tmhost import Died, Field, Worksheet  # noqa: E402

@@ -23,8 +23,21 @@ R_CODE: List[Tuple[str, List[str]]] = [
     ("s <- 'a +'\nt <- \"b {\n+\n\"\nu <- `b-`\n`if`(x)\ny", ["s <- 'a +'", 't <- "b {|+|"', "u <- `b-`", "`if`(x)", "y"]), ("x # +\ny # it's {\nz", ["x # +", "y # it's {", "z"]),
     ('r"(\\)"\nR"-[]"(]-"\nx', ['r"(\\)"', 'R"-[]"(]-"', "x"]), ("", []),
 ]
+# The same of Octave.
+OCTAVE_CODE: List[Tuple[str, List[str]]] = [
+    ("try\nerror('a');\ncatch e\ndisp(e.message)\nend\nx = 1;", ["try|error('a');|catch e|disp(e.message)|end", "x = 1;"]), ("try, error('a'), catch e, disp(1), end_try_catch\nx = 1;", ["try, error('a'), catch e, disp(1), end_try_catch", "x = 1;"]),
+    ("switch 1\ncase 1\n2\ncase {3, 4}\n5\notherwise\n6\nendswitch\n7", ["switch 1|case 1|2|case {3, 4}|5|otherwise|6|endswitch", "7"]), ("x = 2;\ndo\nx--;\nuntil x < 0 # (\nx", ["x = 2;", "do|x--;|until x < 0 # (", "x"]),
+    ("unwind_protect\n1;\n\nunwind_protect_cleanup\n2;\nend_unwind_protect\n3", ["unwind_protect|1;||unwind_protect_cleanup|2;|end_unwind_protect", "3"]), ("%{\nif (\n%}\n1\n#{\n%{\n%}\nend\n#}\n2", ["%{|if (|%}", "1", "#{|%{|%}|end|#}", "2"]),
+    ("for i=1:2\nif i > 1\n'a (';\nelse if true\n3;\nend\nend\nend\n4", ["for i=1:2|if i > 1|'a (';|else if true|3;|end|end|end", "4"]), ("x = [1 2]; if x(end) > 1\nx(end)\nend\nparfor i=1:2\ni;\nendparfor", ["x = [1 2]; if x(end) > 1|x(end)|end", "parfor i=1:2|i;|endparfor"]),
+    ("function r = f(x)\n\n# it's (\nr = x';\nend\nf(1)", ["function r = f(x)||# it's (|r = x';|end", "f(1)"]), ("while true\nbreak\nendwhile\nspmd\n1;\nend\nx = 1 + ... (\n2;\n3", ["while true|break|endwhile", "spmd|1;|end", "x = 1 + ... (|2;", "3"]),
+    ("s.a = 'it''s ('; # if\nt = \"a \\\" (\";\nc = {1, ...\n@(x) x(end)};\nformat long\ny = [s.a' t'];", ["s.a = 'it''s ('; # if", 't = "a \\" (";', "c = {1, ...|@(x) x(end)};", "format long", "y = [s.a' t'];"]), ("disp some[(\nhelp if;\nx = [1 2\n3 4];\nx", ["disp some[(", "help if;", "x = [1 2|3 4];", "x"]),
+]
 # It says which of its files R takes for whole code.
 WHOLE_FOR_R = "for (name in commandArgs(TRUE)) cat(tryCatch({parse(name); 'whole'}, error = conditionMessage), '\\n')"
+
+
+# It says which of the files `f0.m` and so on of a folder Octave takes for whole code.
+WHOLE_FOR_OCTAVE = "for k = 0:%d, try, __parse_file__(fullfile(pwd, sprintf('f%%d.m', k))); disp('whole'), catch e, disp(e.message), end, end"
 
 
 class Infos(unittest.TestCase):
@@ -139,6 +152,33 @@ class Fields(unittest.TestCase):
                     file.write(field + "\n")
             done = subprocess.run(["R", "--no-echo", "--no-save", "-e", WHOLE_FOR_R, "--args", *names], stdout=subprocess.PIPE, check=True)
         self.assertEqual(done.stdout.decode().split(), ["whole"] * len(fields))
+
+    def test_blocks_and_remarks_of_octave(self) -> None:
+        """A field ends where no block is open. Places of a value (`end`), texts and the words of a command open and close none."""
+        for code, wanted in OCTAVE_CODE:
+            self.assertEqual(self.inputs(code, "tmhost-octave"), wanted, code)
+        for code, wanted in (("if x\ny\nz", ["if x", "y", "z"]), ("%{\nx\ny", ["%{|x|y"]), ("s.end = 1;\ns.if\nx", ["s.end = 1;", "s.if", "x"]), ("x = [a b\nif c\nend_of 1];\ny", ["x = [a b|if c|end_of 1];", "y"])):
+            self.assertEqual(self.inputs(code, "/a/prompted.py octave"), wanted, code)
+
+    @unittest.skipUnless(shutil.which("octave"), "there is no octave")
+    def test_octave_takes_each_of_these_for_whole(self) -> None:
+        fields = [group.input.replace(LINE_END, "\n") for code, _ in OCTAVE_CODE for group in groups(code.split("\n"), "octave")]
+        with tempfile.TemporaryDirectory() as folder:
+            for at, field in enumerate(fields):
+                with open(os.path.join(folder, f"f{at}.m"), "w", encoding="utf-8") as file:
+                    file.write("1;\n" + field + "\n")
+            command = WHOLE_FOR_OCTAVE % (len(fields) - 1)
+            done = subprocess.run(["octave", "--no-gui", "--norc", "--quiet", "--eval", command], cwd=folder, stdout=subprocess.PIPE, stderr=subprocess.DEVNULL)
+        self.assertEqual(done.stdout.decode().split("\n")[:-1], ["whole"] * len(fields))
+
+    def test_remarks_of_maxima(self) -> None:
+        """They stand with the statement after them: by themselves they are none. Those after all code are in no field."""
+        for code, wanted in (
+            ("/* a (\nb */\n1;\n2;", ["/* a (|b */|1;", "2;"]), ("/* a */\n\n/* b\n/* c */\nd */\nx: 1;\ny;", ["/* a */||/* b|/* c */|d */|x: 1;", "y;"]), ("x;\n/* a\nb */\n/* c */", ["x;"]), ("/* a", []),
+            ("x: 1; /* a\nb */ y: 2;\nz;", ["x: 1; /* a|b */ y: 2;", "z;"]), ("f('a,\n2\n);\n'b;\nx: \\(;\ny;", ["f('a,|2|);", "'b;", "x: \\(;", "y;"]), ('s: "a (\n/*";\ny;', ['s: "a (|/*";', "y;"]),
+            ("f(x) :=\nx^2;\ny: 1 + /* a */\n\n2;\nif y\nthen 1\nelse 2;", ["f(x) :=|x^2;", "y: 1 + /* a */||2;", "if y|then 1|else 2;"]), ("block([a],\n/* hm */\na)$\nz;", ["block([a],|/* hm */|a)$", "z;"]),
+        ):
+            self.assertEqual(self.inputs(code, "tmhost-maxima"), wanted, code)
 
     def test_statements_of_sql(self) -> None:
         """One goes on to its semicolon, but not beyond a command of the shell. Where there is none a line is one."""

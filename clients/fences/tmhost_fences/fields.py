@@ -4,9 +4,9 @@ import itertools
 import os
 import re
 import sys
-from typing import Dict, Iterator, List, Optional, Sequence, Set, Tuple
+from typing import Callable, Dict, Iterator, List, Optional, Sequence, Set, Tuple
 
-from . import r, sh
+from . import maxima, octave, r, sh
 
 LINE_END = "\u2028"  # stands in an input for the end of a line, since an input has none
 LONGEST_INPUT = 4095  # bytes
@@ -16,6 +16,7 @@ SURROGATE = re.compile(r"[\ud800-\udfff]")
 CLOSING = "elif|else|elseif|except|finally|end|endif|endfor|endwhile|endfunction|endswitch|end_try_catch|end_unwind_protect|do|done|then|fi|esac|od"
 GOES_ON = re.compile(rf"[ \t)\]}}]|(?:{CLOSING})\b")
 GOES_ON_IN = {
+    "octave": re.compile(rf"[ \t)\]}}]|(?:{'|'.join([*octave.WITHIN, *octave.ENDS])})\b"),
     "lua": re.compile(rf"{GOES_ON.pattern}|until\b"),  # elsewhere, as in a shell, it begins a loop
     "R": re.compile(r"[ \t)\]}]|else\b"),  # the others are names
     "sh": re.compile(r"[ \t)}]|(?:elif|else|do|done|then|fi|esac)(?=[ \t;&|<>)]|\Z)"),
@@ -39,6 +40,9 @@ TEXTS = {
     ),
     "sqlite3": re.compile(r"""--[^\n]*|/\*.*?(?:\*/|\Z)|'[^']*(?:'|\Z)|"[^"]*(?:"|\Z)""", re.DOTALL),
 }
+# Languages of which a module reads what has no brackets that count.
+BARED: Dict[str, Callable[[List[str]], List[str]]] = {SHELL: sh.bared, "octave": octave.bared, "maxima": maxima.bared}
+KNOWN = frozenset([*TEXTS, *BARED])  # languages of which it is known what is a text
 REMARKS = ("#", "--", "/*", "//", "%", "\\\\")  # how they begin
 HOLDS = re.compile(r"[\\=]\s*\Z")  # at the end of a line
 
@@ -71,7 +75,7 @@ def group(at: int, lines: List[str]) -> Iterator[Group]:
 def language_in(words: Sequence[str]) -> str:
     """The language of which more is known here than of others, by the words of a session: that of an adapter, which has its name."""
     names = [os.path.basename(word).removeprefix("tmhost-") for word in words]
-    found = next((name for name in names if name in TEXTS), "")
+    found = next((name for name in names if name in KNOWN and name != SHELL), "")
     return found or (SHELL if any(is_shell(words[at:]) for at in range(len(words))) else "")
 
 
@@ -80,11 +84,6 @@ def is_shell(words: Sequence[str]) -> bool:
     name = os.path.basename(words[0])
     is_adapter = name.startswith("tmhost-")
     return name.removeprefix("tmhost-") in SHELLS and (is_adapter or all(word.startswith("-") for word in words[1:]))
-
-
-def is_known(language: str) -> bool:
-    """Whether it is known what is a text in a language."""
-    return language in TEXTS or language == SHELL
 
 
 def left_of(found: "re.Match[str]") -> str:
@@ -130,17 +129,18 @@ def statements(lines: List[str], language: str) -> Dict[int, int]:
 
 
 def continued(lines: List[str], language: str) -> Dict[int, int]:
-    """The line in which a line goes on by what stands at its end, by that one: of R as R reads it, else the next one after a backslash or an equals
-    sign. In a shell that is seen to with its brackets."""
+    """The line in which a line goes on by what stands at its end, by that one: of R as R reads it, of Maxima after remarks, else the next one after a
+    backslash or an equals sign. In a shell that is seen to with its brackets."""
     if language == SHELL:
         return {}
-    return r.continued(lines) if language == "R" else {at: at + 1 for at, line in enumerate(lines) if HOLDS.search(line)}
+    own = {"R": r.continued, "maxima": maxima.continued}.get(language)
+    return own(lines) if own else {at: at + 1 for at, line in enumerate(lines) if HOLDS.search(line)}
 
 
 def bared(lines: List[str], language: str) -> List[str]:
     """The lines without what has no brackets that count: texts and remarks."""
-    if language == SHELL:
-        return sh.bared(lines)
+    if language in BARED:
+        return BARED[language](lines)
     return without_texts(lines, language) if language in TEXTS else [TEXT.sub("", line) for line in lines]
 
 
@@ -161,10 +161,10 @@ def remarks_within(lines: List[str], language: str) -> Set[int]:
 def holds(lines: List[str], language: str, most: int) -> Iterator[int]:
     """Of each line the last one that it holds: that which closes its brackets or ends its statement; that in which it goes on by its end; else
     itself. In a language whose texts aren't known a bracket may stand in one, so that these have at most so many characters."""
-    most = sys.maxsize if is_known(language) else most
+    most = sys.maxsize if language in KNOWN else most
     ends = list(itertools.accumulate((1 + len(line) for line in lines), initial=0))
     without = bared(lines, language)
-    bare = without if is_known(language) else lines
+    bare = without if language in KNOWN else lines
     closed = closings(without)
     ended, following = statements(bare, language), continued(bare, language)
     for at in range(len(lines)):
@@ -173,7 +173,10 @@ def holds(lines: List[str], language: str, most: int) -> Iterator[int]:
 
 
 def groups(lines: List[str], language: str, most: int = LONGEST_INPUT) -> Iterator[Group]:
-    """Each line with those that go on from it. Empty lines stand in a group only where it goes on after them."""
+    """Each line with those that go on from it. Empty lines stand in a group only where it goes on after them. Remarks of Maxima after all code are none."""
+    if language == "maxima":
+        bare = maxima.bared(lines)
+        lines = lines[: 1 + max((at for at, line in enumerate(bare) if maxima.is_code(line)), default=-1)]
     goes_on = GOES_ON_IN.get(language, GOES_ON)
     within = remarks_within(lines, language)
     taken: List[str] = []

@@ -8,12 +8,11 @@ import subprocess
 import tempfile
 import unittest
 
-from tested import InFolder
+from tested import PROGRAM as PROGRAM, InFolder
 
 HERE = os.path.dirname(os.path.realpath(__file__))
 ROOT = os.path.dirname(os.path.dirname(os.path.dirname(HERE)))
 COMMAND = os.path.join(os.path.dirname(HERE), "tmhost-import")
-PROGRAM = os.environ.get("TMHOST") or os.path.join(ROOT, "crates/tmhost/out/tmhost")
 LINE_END = "\u2028"
 os.environ["PATH"] = os.pathsep.join([os.path.join(ROOT, "adapters", "bin"), os.environ.get("PATH", os.defpath)])  # where the program finds the adapters
 PYTHON = {"kernelspec": {"name": "python3", "display_name": "Python 3", "language": "python"}, "language_info": {"name": "python"}}

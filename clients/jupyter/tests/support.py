@@ -15,13 +15,10 @@ CLIENT = os.path.dirname(HERE)
 ROOT = os.path.dirname(os.path.dirname(CLIENT))
 sys.path[:0] = [CLIENT, os.path.dirname(CLIENT), *(os.path.join(os.path.dirname(CLIENT), name) for name in ("python", "fences"))]
 
-from tested import InFolder  # noqa: E402
+from tested import PROGRAM as PROGRAM, InFolder  # noqa: E402
 from tmhost import Field, InUse, Worksheet  # noqa: E402
 
 COMMAND = os.path.join(CLIENT, "tmhost-jupyter-kernel")
-BUILT = [os.path.join(ROOT, "crates", "tmhost", "out", *names) for names in (("tmhost",), ("checked", "tmhost"))]
-HERE_BUILT: str = next((path for path in BUILT if os.path.exists(path)), BUILT[0])
-PROGRAM = os.environ.get("TMHOST") or shutil.which("tmhost") or HERE_BUILT
 INTERPRETER = [sys.executable, "-S", "-E", os.path.join(HERE, "interpreter.py")]
 LESSON = os.path.abspath(os.environ.get("TMHOST_LESSON", os.path.join(HERE, "lesson.ipynb")))
 SECONDS = 300.0  # in which everything comes, on a slow machine too

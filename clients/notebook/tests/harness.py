@@ -14,18 +14,20 @@ import unittest
 import urllib.parse
 from typing import Any, Dict, List, Optional, Tuple
 
-import chromium
-
 HERE = os.path.dirname(os.path.abspath(__file__))
 NOTEBOOK = os.path.dirname(HERE)
 REPOSITORY = os.path.dirname(os.path.dirname(NOTEBOOK))
-BUILT = os.path.join(REPOSITORY, "crates", "tmhost", "out", "tmhost")
+sys.path.append(os.path.dirname(NOTEBOOK))
+
+import chromium  # noqa: E402
+from found import find_program  # noqa: E402
+
 SPOKEN = f"{sys.executable} {os.path.join(HERE, 'interpreters', 'spoken.py')}"
 
 
-def find_program() -> Tuple[Optional[str], str]:
+def usable_program() -> Tuple[Optional[str], str]:
     """The program, or why there is none that the tests can use. It isn't built here, since that takes long."""
-    program = os.environ.get("TMHOST") or (BUILT if os.path.exists(BUILT) else shutil.which("tmhost"))
+    program = find_program()
     if program is None:
         return None, "there is no tmhost: build it, or name it by TMHOST"
     with tempfile.TemporaryDirectory() as folder:
@@ -34,10 +36,10 @@ def find_program() -> Tuple[Optional[str], str]:
         reported = subprocess.run([program, "live", "--json", sheet], stdin=subprocess.DEVNULL, capture_output=True)
     if not reported.stdout.startswith(b'{"format"'):
         return None, f"{program} has no live --json"
-    return os.path.abspath(program), ""
+    return program, ""
 
 
-PROGRAM, WHY_NOT = find_program()
+PROGRAM, WHY_NOT = usable_program()
 PLACE = tempfile.mkdtemp(prefix="notebook-addresses-")
 atexit.register(shutil.rmtree, PLACE, True)
 needs_program = unittest.skipIf(PROGRAM is None, WHY_NOT)

@@ -12,12 +12,12 @@ from typing import Any, Callable, List, Tuple
 HERE = os.path.dirname(os.path.realpath(__file__))
 PACKAGE = os.path.dirname(HERE)
 ROOT = os.path.dirname(os.path.dirname(PACKAGE))
-sys.path.insert(0, PACKAGE)
+sys.path[:0] = [PACKAGE, os.path.dirname(PACKAGE)]
 
+from found import BUILT, find_program  # noqa: E402
 from tmhost import Evaluation, InUse, LostItem, Refused, Worksheet  # noqa: E402
 
-BUILT = os.path.join(ROOT, "crates/tmhost/out/tmhost")
-PROGRAM = os.environ.get("TMHOST") or shutil.which("tmhost") or BUILT
+PROGRAM = find_program() or BUILT[0]
 WORDS = [sys.executable, "-S", "-E", os.path.join(HERE, "interpreter.py")]
 SECONDS = 120.0  # in which everything comes, on a slow machine too
 

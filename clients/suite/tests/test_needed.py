@@ -100,7 +100,7 @@ class Only(Base):
     def test_a_part_of_a_first_line(self) -> None:
         self.write(case("say def f"), case("say def g"), case("say x", info="b"))
         ran = self.run_suite(self.path, "--only", "def")
-        self.assertEqual((ran.status, ran.errors.splitlines()[0]), (1, "tmhost-suite: no case is one of those that are to be run: none has the line or the first line def, and '*def*' chooses 2; there are"))
+        self.assertEqual((ran.status, ran.errors.splitlines()[0]), (1, "tmhost-suite: no case is one of those that are to be run: none has the line, the name or the first line def, and '*def*' chooses 2; there are"))
         self.assertEqual(self.verdicts(self.path, "--only", "*def*"), ["new", "new"])
         self.assertIn("the first line nothing; there are\n", self.run_suite(self.path, "--only", "nothing").errors)
 

@@ -46,7 +46,7 @@ mtd[columnalign="right"]{text-align:right;text-align:-webkit-right}
 
 // Prose: no card, but room for each of its parts.
 const PROSE_STYLE = `<style>
-.prose{padding:0 .9rem;border-color:transparent;background:none;overflow-wrap:anywhere;overflow-x:auto}
+.prose{padding:.3rem .9rem;border-color:transparent;background:none;overflow-wrap:anywhere;overflow-x:auto}
 .prose>:first-child{margin-top:0}
 .prose>:last-child{margin-bottom:0}
 .prose :is(p,ul,ol,pre,table,blockquote){margin:.6rem 0}
@@ -65,7 +65,7 @@ const PROSE_STYLE = `<style>
 .prose .right{text-align:right}
 .prose a{color:var(--mark)}
 .prose :is(a,code){unicode-bidi:isolate}
-.prose .display{display:block;margin:.6rem 0;overflow-x:auto;text-align:center}
+.prose .display{display:block;padding:.5rem 0;overflow-x:auto;overflow-y:hidden;text-align:center}
 @media print{.prose{break-inside:auto}.prose :is(h2,h3,h4,h5,h6),.prose:has(>:is(h2,h3,h4,h5,h6):last-child){break-after:avoid}}
 </style>
 `;

@@ -183,3 +183,20 @@ for (const width of [900, 360]) {
     assert.deepEqual([shown, target], [5, "prose"]);
   });
 }
+
+test("a formula with a line for itself has no scroll bar at its side, and isn't cut off", options, async () => {
+  const tall = ["\\sum_{k=1}^{n} \\frac{k^2}{1+\\frac{1}{k}}", "\\sqrt{\\frac{a^{b^c}}{b_{c_{d_e}}}}", "y_{y_{y_y}}", "\\begin{pmatrix} a \\\\ b \\\\ c\\end{pmatrix}", "x"];
+  const texts = [...tall.map((tex) => `$$${tex}$$`), "$\\frac{1}{2_{3_4}}$"];
+  const outputs = tall.map((tex) => ({ output: span(`$${tex}$`) }));
+  await open().load(run(pageOf("tall", [...texts.map((input) => ({ session: "prose", input, output: null })), ...outputs])).page);
+  const [count, scrolled, cut] = await open().value(`(() => {
+    const boxes = [...document.querySelectorAll(".prose .display, .prose, .out")];
+    const beyond = (box) => [...box.querySelectorAll("math, math *")].some((one) => {
+      const [inner, outer] = [one.getBoundingClientRect(), box.getBoundingClientRect()];
+      return inner.height > 0 && (inner.top < outer.top || inner.bottom > outer.bottom);
+    });
+    const scrolls = (box) => box.scrollHeight > box.clientHeight && box.className !== "prose";
+    return [boxes.length, boxes.filter(scrolls).map((box) => box.textContent), boxes.filter(beyond).map((box) => box.textContent)];
+  })()`);
+  assert.deepEqual([count, scrolled, cut], [16, [], []]);
+});

@@ -13,6 +13,7 @@ HERE = os.path.dirname(os.path.realpath(__file__))
 ROOT = os.path.dirname(os.path.dirname(os.path.dirname(HERE)))
 COMMAND = os.path.join(os.path.dirname(HERE), "tmhost-weave")
 INTERPRETER = os.path.join(HERE, "interpreter.py")
+KEPT = "; kept from an earlier weave: --all evaluates all again\n"  # what is said of errors, at their end
 FENCED = re.compile(r"^```tmhost-answer\n(.*?)\n```$", re.MULTILINE | re.DOTALL)
 
 sys.path[:0] = [os.path.dirname(HERE), *(os.path.join(ROOT, "clients", name) for name in ("", "python", "fences", "notebook"))]

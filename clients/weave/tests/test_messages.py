@@ -10,7 +10,7 @@ import time
 from typing import List, Optional, Tuple
 from unittest import mock
 
-from .support import COMMAND, PROGRAM, ROOT, Case, answers, command_words, environment, fences, heed_interrupts
+from .support import COMMAND, KEPT, PROGRAM, ROOT, Case, answers, command_words, environment, fences, heed_interrupts
 
 from tmhost_fences.troubles import Trouble
 from tmhost_weave import sheets
@@ -327,6 +327,17 @@ class Troubles(Messages):
             with mock.patch("os.statvfs", return_value=mock.Mock(f_bavail=blocks, f_frsize=4096)):
                 self.assertEqual(sheets.has_no_space(self.sheet), is_full)
         self.assertFalse(sheets.has_no_space("/nowhere/at/all"))
+
+
+class Kept(Messages):
+    def test_errors_that_are_kept(self) -> None:
+        """Their cause may be gone. Where all are kept it is said how they are evaluated again; where one isn't, a weave has just evaluated it."""
+        text = self.front("a", "b") + fences([("a", "error |one"), ("b", "error |two")])
+        kept = KEPT.rstrip("\n")
+        runs: List[Tuple[List[str], str, bool]] = [([], text, False), ([], text, True), (["--check"], text, True), (["--all"], text, False), (["--test"], text, False), ([], text.replace("two", "2"), False)]
+        for words, changed, is_kept in runs:
+            status, said = self.said(changed, *words)
+            self.assertEqual((status, said[-1].startswith("2 errors: lines "), said[-1].endswith(kept)), (1 if "--check" in words or "--test" in words else 0, True, is_kept), (words, said))
 
 
 class Shortened(Case):

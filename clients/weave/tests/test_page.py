@@ -8,7 +8,7 @@ import unittest
 from typing import List
 
 from .interpreter import value
-from .support import Case, Outcome, fences
+from .support import KEPT, Case, Outcome, fences
 from .test_documents import FRONT, HOSTILE, random_text
 from .test_pictures import PNG, SVG
 
@@ -17,6 +17,7 @@ from tmhost_weave.answers import ANSWER, ERROR, Piece, Shown  # noqa: E402
 from tmhost_weave.document import Document  # noqa: E402
 from tmhost_weave.matter import Matter, matter_of  # noqa: E402
 from tmhost_weave.page import Page  # noqa: E402
+from tmhost_weave.style import STYLE  # noqa: E402
 
 BODY = re.compile(r"<main>\n(.*)</main>", re.DOTALL)
 ALLOWED = re.compile(r'<(?:/?(?:div|pre|code|details|summary)(?: class="[a-z -]+")?(?: dir="ltr")?)>')
@@ -59,9 +60,17 @@ class Pages(PageCase):
         self.assertIn("<title>One &lt;b&gt; &amp; two</title>", page)
         self.assertEqual(self.logged("a"), ["x <b>", "quiet", "error out\\n|no & no"])
         done = self.paged(woven)
-        self.assertEqual(done.errors, f"{self.text}: 1 error: line {woven[: woven.index('error out')].count(chr(10)) + 1}\n{self.text}: {self.page} is written\n")
+        self.assertEqual(done.errors, f"{self.text}: 1 error: line {woven[: woven.index('error out')].count(chr(10)) + 1}{KEPT}{self.text}: {self.page} is written\n")
         self.assertEqual((self.logged("a"), self.read(self.page), self.read()), ([], page, woven))
         self.assertEqual(sorted(os.listdir(self.folder)), ["page.html", "text.md", "text.sheet", "text.sheet.alt"])
+
+    def test_what_scrolls_from_side_to_side(self) -> None:
+        """It has no scroll bar for its height, and room for what its font draws beyond its lines: browsers would show one where a single pixel is beyond."""
+        rules = [rule for rule in STYLE.split("\n") if "overflow-x:auto" in rule]
+        self.assertEqual([rule.partition("{")[0] for rule in rules], ["div.out", ".tex.display"])
+        for rule in rules:
+            self.assertIn("overflow-y:hidden", rule)
+            self.assertRegex(rule, r"[{;]padding:\.5rem ")
 
     def test_what_options_hide(self) -> None:
         """Of a chunk or a fence; in the text the code stays."""

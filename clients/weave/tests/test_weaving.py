@@ -10,7 +10,7 @@ import time
 from typing import List, Sequence, Tuple
 
 from .interpreter import value
-from .support import INTERPRETER, PROGRAM, Case, answers, command_words, environment, fences
+from .support import INTERPRETER, KEPT, PROGRAM, Case, answers, command_words, environment, fences
 
 Blocks = List[Tuple[str, str]]
 
@@ -154,14 +154,14 @@ class Weaving(Case):
         said = f"{self.text}: 3 errors: lines {', '.join(lines)}\n"
         self.assertEqual((done.status, len(lines), done.errors.endswith(said)), (0, 3, True), done.errors)
         for words in ([self.text], ["--check", self.text], ["--test", self.text]):
-            self.assertEqual(self.run_weave(*words), (0, "", said))
+            self.assertEqual(self.run_weave(*words), (0, "", said if "--test" in words else said[:-1] + KEPT))
         self.write(text)
         aside = [str(at) for at, line in enumerate(text.split("\n"), 1) if line.startswith("error |")]
-        self.assertIn(f": 3 errors: lines {', '.join(aside)}\n", self.run_weave("--output", self.place("other.md"), self.text).errors)
+        self.assertIn(f": 3 errors: lines {', '.join(aside)}{KEPT}", self.run_weave("--output", self.place("other.md"), self.text).errors)
         woven = self.weave(self.front("a") + fences([("a", "x\nerror |one")]))
-        self.assertEqual(self.run_weave().errors, f"{self.text}: 1 error: line {woven.split(chr(10)).index('error |one') + 1}\n")
+        self.assertEqual(self.run_weave().errors, f"{self.text}: 1 error: line {woven.split(chr(10)).index('error |one') + 1}" + KEPT)
         self.weave(self.front("a") + fences([("a", "\n".join(["error |one"] * 30))]))
-        self.assertRegex(self.run_weave().errors, r"30 errors: lines (\d+, ){20}\.\.\n\Z")
+        self.assertRegex(self.run_weave().errors, r"30 errors: lines (\d+, ){20}\.\.; kept from .*\n\Z")
 
     def test_errors_that_fail(self) -> None:
         """With --no-errors those that nobody wanted, and those of error=FALSE in any case. The text is woven all the same."""

@@ -14,9 +14,9 @@ DRAWS = f"picture |image/svg+xml|{SVG}"
 
 
 class Whole(Case):
-    def document(self, *codes: str, more: str = "", info: str = "p") -> str:
-        """A text whose interpreter has the name of Python's adapter among its words."""
-        front = self.front(p=[sys.executable, INTERPRETER, self.place("p.log"), "tmhost-python"])
+    def document(self, *codes: str, more: str = "", info: str = "p", adapter: str = "tmhost-python") -> str:
+        """A text whose interpreter has the name of an adapter among its words."""
+        front = self.front(p=[sys.executable, INTERPRETER, self.place("p.log"), adapter])
         return front[: -len("---\n")] + more + "---\n" + fences([(info, code) for code in codes])
 
     def test_each_fence_is_one_field(self) -> None:
@@ -40,6 +40,20 @@ class Whole(Case):
         self.assertNotIn(said, self.run_weave(self.text).errors)
         self.write(self.front("a") + fences([("a", DRAWS + "\nx")]))  # of another interpreter nothing is known of that
         self.assertNotIn(said, self.run_weave(self.text).errors)
+
+    def test_a_figure_of_r_or_octave_that_is_shown_too_early(self) -> None:
+        """Where a later line draws on it, as far as that is seen: R has no figure then, and Octave has another one."""
+        hint = ": its figure is shown before the lines after it draw: {whole} at the fence, or `fences: whole` in the front matter, makes them one field"
+        draws = DRAWS + "\\x20"  # since a line of R goes on after `>`
+        without = "error |Error in plot.xy(xy) :\\n  plot.new wurde noch nicht aufgerufen"
+        for adapter, codes, lines in (
+            ("tmhost-R", [f"say 1\n{draws}\nsay 2\n{without}\n{without}", f"{draws}\nerror |other\n{draws}", f"{draws}\nx"], [9]),
+            ("tmhost-octave", [f"{draws}\nsay 1\n{draws}\n{draws}", f"{draws}\n{without}", f"say 1\n{draws}"], [8]),
+        ):
+            for more in ("", "fences: whole\n"):
+                self.write(self.document(*codes, more=more, adapter=adapter))
+                said = [line for line in self.run_weave(self.text).errors.split("\n") if "figure" in line]
+                self.assertEqual(said, [] if more else [f"{self.text}: line {line}{hint}" for line in lines])
 
 
 class Tested(Case):

@@ -13,6 +13,7 @@ from tmhost_fences.meant import session_meant
 from tmhost_fences.troubles import Trouble
 
 from .answers import Finder, Shown, is_of_an_answer, lines_of
+from .knitr import R, Setting, groups_without, settings_in, uses_knitr
 
 BARE_WORD = re.compile(r"[A-Za-z][A-Za-z-]*")
 TAB = 4  # columns
@@ -39,6 +40,7 @@ class Fence:
     is_in_container: bool
     language: str
     old: Shown
+    loads_knitr: bool = False  # whether `library(knitr)` is code like any other, since code of its text needs it
 
     @property
     def is_pure(self) -> bool:
@@ -50,9 +52,16 @@ class Fence:
         return ENDS in self.flags
 
     @property
+    def settings(self) -> List[Setting]:
+        """Those of knitr that its code has, which are left out."""
+        return list(settings_in(self.content, self.loads_knitr)) if self.language == R else []
+
+    @property
     def groups(self) -> List[Group]:
-        lines = list(self.content)
-        return list(whole(lines) if self.flags & {PURE, WHOLE} else groups(lines, self.language))
+        lines, is_whole, settings = list(self.content), bool(self.flags & {PURE, WHOLE}), self.settings
+        if settings:
+            return groups_without(lines, settings, is_whole)
+        return list(whole(lines) if is_whole else groups(lines, self.language))
 
     @property
     def code(self) -> Tuple[str, FrozenSet[str], Tuple[str, ...]]:
@@ -134,6 +143,9 @@ class Document:
         self.of_pages: Dict[str, int] = {}  # the same of options that only pages obey
         self.first, self.body = front.lines, contents[front.lines :]  # the first line after the front matter, and the lines from there on, without their ends
         self._read(self.body, self.first)
+        loads_knitr = uses_knitr([fence.content for fence in self.fences if fence.language == R])
+        for fence in self.fences:
+            fence.loads_knitr = loads_knitr
         self._note_other_bytes()
 
     def _read(self, body: List[str], first: int) -> None:
@@ -175,6 +187,15 @@ class Document:
             is_of_page = name == ECHO and block.options[name].lower() in NO
             if not option_meant(name):
                 (self.of_pages if is_of_page else self.ignored).setdefault(name, block.begin + 1)
+
+    @property
+    def settings(self) -> Dict[str, int]:
+        """The settings of knitr that are left out, each with the line, from 1, of the first one."""
+        found: Dict[str, int] = {}
+        for fence in self.fences:
+            for setting in fence.settings:
+                found.setdefault(setting.name, fence.begin + 2 + setting.begin)
+        return found
 
     @property
     def has_ends(self) -> bool:

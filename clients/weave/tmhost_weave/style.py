@@ -38,10 +38,10 @@ pre.in,pre.text{background:var(--card)}
 .cell>*{margin:0 0 .3rem}
 pre.out{border-left:.2rem solid var(--line)}
 pre.error{color:var(--error);border-left:.2rem solid var(--error)}
-div.out{padding:.2rem .9rem;overflow-x:auto}
+div.out{padding:.5rem .9rem;overflow-x:auto;overflow-y:hidden}
 div.out img{display:block;background:#fff}
 .none{color:var(--warn);font-style:italic}
-.tex.display{display:block;margin:.8rem 0;overflow-x:auto;text-align:center}
+.tex.display{display:block;margin:0;padding:.5rem 0;overflow-x:auto;overflow-y:hidden;text-align:center}
 blockquote{margin:.8rem 0;padding-left:.9rem;border-left:3px solid var(--line);color:var(--dim)}
 figure{margin:1rem 0}
 figcaption{color:var(--dim);font-size:.9rem}

@@ -9,8 +9,10 @@ from .formulas import parts_of
 from .lives import AT_CODE, AT_START
 from .plan import Plan, Wanted
 
+MOST_LINES = 20  # of errors, in a message
 MOST_REPORTED = 5  # kinds of fences, in a message
 LONGEST_INFO = 40  # characters of what stands at one
+OF_R = "plot.new"  # in what R says of that, in each of its languages
 
 
 def why_nothing(document: Document) -> str:
@@ -58,12 +60,32 @@ def done_in(plan: Plan, replayed: Mapping[str, int], others: Mapping[str, int]) 
             yield f"{shown}: {differing} kept answers aren't those of the replay; --all evaluates all again"
 
 
+def said_of_errors(errors: List[Wanted]) -> str:
+    """How many there are, and in which lines their code stands. Where no field was evaluated for one, its cause may be gone by now."""
+    lines = [str(wanted.line) for wanted in errors]
+    where = ", ".join([*lines[:MOST_LINES], *([".."] if len(lines) > MOST_LINES else [])])
+    kept = "; kept from an earlier weave: --all evaluates all again" if all(wanted.is_kept for wanted in errors) else ""
+    return (f"1 error: line {where}" if len(lines) == 1 else f"{len(lines)} errors: lines {where}") + kept
+
+
+def has_picture(field: Optional[Field]) -> bool:
+    return bool(field and field.answer and any(kind == PICTURE for _, kind in parts_of(field.answer.output) or ()))
+
+
+def draws_on(wanted: Wanted, plan: Plan, fields: Mapping[int, Field]) -> bool:
+    """Whether lines after one that shows a figure are most likely meant to draw on it: in Python, unless the line shows it by a call; in Octave, where each
+    line that draws has a figure of its own; in R, where what draws on a figure is an error when there is none."""
+    language = wanted.fence.language
+    later = [fields.get(one.id or 0) for one in plan.after_in_fence(wanted)]
+    if language == "R":
+        return any(field and field.answer and field.answer.errors and OF_R in field.answer.brief for field in later)
+    return any(map(has_picture, later)) if language == "octave" else language == "python" and bool(later) and "show(" not in wanted.input
+
+
 def early(plan: Plan, fields: Mapping[int, Field]) -> Iterator[int]:
-    """The first line of each fence of Python that leaves a figure open, where others come after it: it is shown with that line, as far as it is drawn."""
+    """The first line of each fence that leaves a figure open, where others come after it: it is shown with that line, as far as it is drawn."""
     reported = set()
-    for wanted, after in zip(plan.wanted, plan.wanted[1:]):
-        field = fields.get(wanted.id or 0)
-        is_inside = wanted.fence is after.fence and wanted.fence.language == "python" and "show(" not in wanted.input
-        if is_inside and wanted.fence.begin not in reported and field and field.answer and any(kind == PICTURE for _, kind in parts_of(field.answer.output) or ()):
+    for wanted in plan.wanted:
+        if wanted.fence.begin not in reported and has_picture(fields.get(wanted.id or 0)) and draws_on(wanted, plan, fields):
             reported.add(wanted.fence.begin)
             yield wanted.line

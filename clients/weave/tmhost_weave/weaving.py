@@ -25,7 +25,7 @@ from .pieces import ENDED, piece_of, pieces_of
 from .plan import Plan, Wanted
 from .sheets import AGAIN, fit, has_no_space, make, opened, remove, sheet_path, shorten
 from .targets import page_of, pages_of, place_of
-from .telling import done_in, early, later_ones, reason_of, why_nothing
+from .telling import done_in, early, later_ones, reason_of, said_of_errors, why_nothing
 from .unstarted import doubts, left, note_missing, said_of_left
 from .watching import Watched, lives_of
 from tmhost_fences.aside import fault_of, free_name, set_aside
@@ -33,7 +33,6 @@ from tmhost_fences.blocks import cut as cut_line
 from tmhost_fences.targets import refuse_target
 from tmhost_fences.troubles import Trouble
 
-MOST_LINES = 20  # of errors, in a message
 LEFT, NOT_COMPARED = "left as they stand", "not compared"  # what is done with answers of a session that never started
 CLEAR = "\r\x1b[K"  # takes a line of a terminal away
 
@@ -102,8 +101,9 @@ class Weave:
         codes = codes_in(self.document)
         if codes:
             self.say(why_unevaluated(codes))
-        if ignored:
-            self.say("options that are ignored: " + ", ".join(f"{name} (line {line})" for name, line in sorted(ignored.items())))
+        for what, named in (("options that are ignored", ignored), ("settings of knitr, which change nothing here, are left out", self.document.settings)):
+            if named:
+                self.say(f"{what}: " + ", ".join(f"{name} (line {line})" for name, line in sorted(named.items())))
         if not self.document.fences:
             self.say(why_nothing(self.document))
 
@@ -339,10 +339,8 @@ class Weave:
 
     def tell_errors(self, plan: Plan) -> None:
         """How many answers are errors that nobody wanted, and in which lines their code stands, also where it is hidden."""
-        lines = [str(wanted.line) for wanted in self.errors(plan)]
-        if lines:
-            where = ", ".join([*lines[:MOST_LINES], *([".."] if len(lines) > MOST_LINES else [])])
-            self.say(f"1 error: line {where}" if len(lines) == 1 else f"{len(lines)} errors: lines {where}")
+        if found := self.errors(plan):
+            self.say(said_of_errors(found))
 
     def errors(self, plan: Plan) -> List[Wanted]:
         return [wanted for wanted in plan.wanted if self.is_error(wanted) and ERRORS_WANTED not in wanted.fence.flags]
