@@ -1,5 +1,5 @@
 //! Blocks: what an interpreter puts out, as trees of formats, channels and texts. Why its life ended. And
-//! the small list types that the public data of all crates is made of.
+//! the small list types (`Octets`, `Queue`, `Sequence`) that public data of other crates has, beside `Vec`.
 #![tactic(auto)]
 
 mod block;

@@ -15,7 +15,8 @@ pub enum RunFault {
     /// 40: the reader failed. Lines are read again after an interruption (crate `arrivals`); a stream that is read whole is not.
     #[error("the input could not be read")]
     Input,
-    /// 41: the input has more than 67,108,864 bytes.
+    /// 41: the input has more than 67,108,864 bytes. Also where more would be taken together, numbered or counted than can be,
+    /// to which no input within the limits comes.
     #[error("the input is too long")]
     InputTooLong,
     /// 42: the writer failed. A part of the text may have gone out.

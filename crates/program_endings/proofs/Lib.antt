@@ -5,3 +5,4 @@ pub mod Living
 pub mod Streams
 pub mod Totals
 pub mod Evaluating
+pub mod Began

@@ -25,7 +25,7 @@ use Rattle.field_agenda.specs.Standing.{first_fields}
 use Rattle.field_agenda.specs.declared.by_fields.ByFields.{ByFields}
 use Rattle.field_agenda.specs.declared.stage.Stage.{Stage}
 use Rattle.field_agenda.specs.declared.stage.Stage.TheVariants as stage
-use Rattle.program_endings.specs.LiveProgram.{FrameWithheld, EndsFaulted, FaultReported, Framed, LastReported}
+use Rattle.program_endings.specs.LiveProgram.{Began, FrameWithheld, EndsFaulted, FaultReported, Framed, LastReported}
 use Rattle.program_endings.specs.StrictProgram.{stopped_after_text}
 use Rattle.program_endings.specs.Records.{ProgramPassage, ProgramRun, Streams, run_on, run_since, run_until, streams, text_after, text_before, view_given}
 use Rattle.program_endings.specs.declared.ending.Ending.{Ending}
@@ -103,7 +103,7 @@ pub record EvaluatesTo {D C O P : Type 0} (o : EvalSetting P) (r : ProgramRun D 
 
 -- what stands last is written whole where both streams took what they had to, and it is nothing where the voice takes no memory
 abbrev pub FramedLast : {O : Type 0} → Voice → (O → Option (List ℕ)) → O → O → Bool → Boundary → Type 0
-FramedLast V contents old new reported last = (V.takes_memory ≡ false → new ≡ old) × (reported ≡ true → Appends (contents old) (contents new) (V.frame last))
+FramedLast V contents old new reported last = (V.takes_memory ≡ false → new ≡ old) × (reported ≡ true → Appends (contents old) (contents new) (V.frame last)) × Began V (contents old) (contents new) (V.frame last)
 
 -- what isn't there, as a fault and as what stands last
 abbrev pub missing_fault : Missing → EvalFault
@@ -118,7 +118,7 @@ missing_last (missing.Program name) = boundary.NoProgram name
 pub data LastOfEnd {O E : Type 0} (V : Voice) (s : Streams O E) (ending : Ending) (end : EvalEnd) : Type 0 where
   ended : Framed V s.output.contents boundary.End s.output.old s.output.new → ending.status ≡ evaluation_status (Ok end) → TellsEval s.errors ending.reported (Ok end)
       → LastOfEnd V s ending end
-  unended : (why : RunFault) (mid : O) → FrameWithheld V s.output.old mid why → LastReported {T = Bool} V s.output.contents mid s.output.new ending.reported (Err why)
+  unended : (why : RunFault) (mid : O) → FrameWithheld V s.output.contents boundary.End s.output.old mid why → LastReported {T = Bool} V s.output.contents mid s.output.new ending.reported (Err why)
       → ending.status ≡ 1 → TellsEval s.errors ending.reported (Err (evals.Run why)) → LastOfEnd V s ending end
 
 -- A fault is printed last, where the voice has it and the run didn't print it, and is a line on the stream of errors.
@@ -141,7 +141,7 @@ EvaluationBegun {O = O} o r e ending = (last : O) × (whole : Bool) × (answer :
 pub data EvaluationEnded {D C O P E : Type 0} (o : EvalSetting P) (r : ProgramRun D C O) (e : Saying E) (ending : Ending) : Type 0 where
   greeted : (first : O) → Framed o.voice r.wrote.contents boundary.Hello r.wrote.old first → EvaluationBegun o (run_since r first) e ending → EvaluationEnded o r e ending
   -- it couldn't greet, and nothing was done but to close the disk
-  ungreeted : (why : RunFault) (mid : O) → FrameWithheld o.voice r.wrote.old mid why → LastReported {T = Bool} o.voice r.wrote.contents mid r.wrote.new ending.reported (Err why)
+  ungreeted : (why : RunFault) (mid : O) → FrameWithheld o.voice r.wrote.contents boundary.Hello r.wrote.old mid why → LastReported {T = Bool} o.voice r.wrote.contents mid r.wrote.new ending.reported (Err why)
       → ending.status ≡ 1 → TellsEval e ending.reported (Err (evals.Run why)) → r.called.new ≡ r.called.old → r.given.how.closed r.given.disk → EvaluationEnded o r e ending
 
 -- the same of the disk that was opened

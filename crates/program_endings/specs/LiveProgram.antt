@@ -13,7 +13,7 @@ use Rattle.offline_programs.specs.Saying.{Saying}
 use Rattle.offline_programs.specs.declared.fault.RunFault.{RunFault}
 use Rattle.offline_programs.specs.declared.fault.RunFault.TheVariants as fault
 use Rattle.sheet_files.specs.declared.files_fault.FilesFault.{FilesFault}
-use Rattle.tellings.specs.Voice.{IsWithheld, Voice}
+use Rattle.tellings.specs.Voice.{IsWithheld, Voice, WroteFront}
 use Rattle.tellings.specs.declared.note.Boundary.{Boundary}
 use Rattle.tellings.specs.declared.note.Boundary.TheVariants as boundary
 use Rattle.program_endings.specs.Ending.{EndsAs}
@@ -69,26 +69,30 @@ is_printed fault.SecondFile = true
 abbrev pub Framed : {O : Type 0} → Voice → (O → Option (List ℕ)) → Boundary → O → O → Type 0
 Framed V contents f old new = Appends (contents old) (contents new) (V.frame f) × (V.takes_memory ≡ false → new ≡ old)
 
+-- of a text that was tried a beginning was written, and nothing else, where the voice writes in lines
+abbrev pub Began : Voice → Option (List ℕ) → Option (List ℕ) → List ℕ → Type 0
+Began V old new text = V.in_lines ≡ true → WroteFront false old new text
+
 -- A fault is printed last of all, where the voice has a text for it and the output takes it.
 abbrev pub FaultReported : {O : Type 0} → Voice → (O → Option (List ℕ)) → O → O → Bool → RunFault → Type 0
-FaultReported V contents old new reported why = (V.takes_memory ≡ false → new ≡ old) × (reported ≡ true → Appends (contents old) (contents new) (V.fault why))
+FaultReported V contents old new reported why = (V.takes_memory ≡ false → new ≡ old) × (reported ≡ true → Appends (contents old) (contents new) (V.fault why)) × Began V (contents old) (contents new) (V.fault why)
 
 abbrev pub LastReported : {O T : Type 0} → Voice → (O → Option (List ℕ)) → O → O → Bool → Result T RunFault → Type 0
 LastReported V contents old new reported (Ok done) = new ≡ old
 LastReported V contents old new reported (Err why) = FaultReported V contents old new reported why
 
--- Why a frame couldn't be printed, by a voice that takes memory, and what the output is then: where there was no memory, the same as before.
-abbrev pub FrameWithheld : {O : Type 0} → Voice → O → O → RunFault → Type 0
-FrameWithheld V old new why = (V.takes_memory ≡ true) × IsWithheld V why × (why ≡ fault.OutOfMemory → new ≡ old)
+-- Why this frame couldn't be printed, by a voice that takes memory, and what the output is then: where there was no memory, the same as before.
+abbrev pub FrameWithheld : {O : Type 0} → Voice → (O → Option (List ℕ)) → Boundary → O → O → RunFault → Type 0
+FrameWithheld V contents f old new why = (V.takes_memory ≡ true) × IsWithheld V why × (why ≡ fault.OutOfMemory → new ≡ old) × Began V (contents old) (contents new) (V.frame f)
 
--- A frame couldn't be printed, and that is the fault, which is printed last.
-abbrev pub Unframed : {O : Type 0} → Voice → Writing O → Bool → StrictAnswer → Type 0
-Unframed {O = O} V w reported answer =
-    (why : RunFault) × (mid : O) × (answer ≡ Err why) × FrameWithheld V w.old mid why × FaultReported V w.contents mid w.new reported why
+-- This frame couldn't be printed, and that is the fault, which is printed last.
+abbrev pub Unframed : {O : Type 0} → Voice → Boundary → Writing O → Bool → StrictAnswer → Type 0
+Unframed {O = O} V f w reported answer =
+    (why : RunFault) × (mid : O) × (answer ≡ Err why) × FrameWithheld V w.contents f w.old mid why × FaultReported V w.contents mid w.new reported why
 
 -- after the end of its lines the voice's last message is printed
 abbrev pub EndsFramed : {O : Type 0} → Voice → Writing O → Bool → Option ℕ → StrictAnswer → Type 0
-EndsFramed V w reported stopped answer = (Framed V w.contents boundary.End w.old w.new × (answer ≡ Ok stopped)) ⊎ Unframed V w reported answer
+EndsFramed V w reported stopped answer = (Framed V w.contents boundary.End w.old w.new × (answer ≡ Ok stopped)) ⊎ Unframed V boundary.End w reported answer
 
 -- a fault was printed last by the run, or it is printed now
 abbrev pub FaultedBy : {O : Type 0} → Bool → Voice → Writing O → Bool → Bool → RunFault → Type 0
@@ -116,7 +120,7 @@ pub data LiveBegun {D C O : Type 0} (o : LiveSetting) (stream : Option (List ℕ
 pub data LiveAnswer {D C O : Type 0} (o : LiveSetting) (stream : Option (List ℕ)) (r : ProgramRun D C O) (reported : Bool) (answer : StrictAnswer) : Type 0 where
   greeted : (first : O) → Framed o.voice r.wrote.contents boundary.Hello r.wrote.old first → LiveBegun o stream (run_since r first) reported answer → LiveAnswer o stream r reported answer
   -- it couldn't greet, and nothing was done but to close the disk
-  ungreeted : Unframed o.voice r.wrote reported answer → r.called.new ≡ r.called.old → r.given.how.closed r.given.disk → LiveAnswer o stream r reported answer
+  ungreeted : Unframed o.voice boundary.Hello r.wrote reported answer → r.called.new ≡ r.called.old → r.given.how.closed r.given.disk → LiveAnswer o stream r reported answer
 
 -- How `live` and `eval` end where their files weren't opened: no child is called, and why is printed last and is a line on the stream of errors.
 abbrev pub LiveUnopened : {D C O E : Type 0} → Voice → ProgramPassage D C O → Saying E → Ending → FilesFault → Type 0

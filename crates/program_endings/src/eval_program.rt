@@ -162,6 +162,7 @@ fn last_of(missing: Missing) -> Boundary
 
 /// Ends the program where a field or a program isn't there, which goes to both streams where its voice has it: as
 /// what stands last on one, and as its line on the other.
+#[tactic(auto, using(crate::proofs::Began::began_so))]
 pub(crate) fn end_without<W: Write, E: Says, T: Tells>(
     missing: Missing,
     tells: &T,

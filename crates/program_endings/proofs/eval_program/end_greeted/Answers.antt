@@ -1,9 +1,10 @@
 use Rattle.std.proofs.Common.{refl}
 use Rattle.program_endings.specs.EvalProgram.{greeted, ungreeted}
+use Rattle.program_endings.proofs.Began.{began_cut}
 use Rattle.program_endings.proofs.eval_program.end_greeted.Goals as goal
 
 pub returns-in-Ok : goal.returns-in-Ok
 returns-in-Ok g c = greeted c.frame.new.writer (c.in-Ok.ensures.ok, c.in-Ok.ensures.still) c.end_on.ensures
 
 pub returns-in-Err : goal.returns-in-Err
-returns-in-Err g c = ungreeted c.in-Err.why c.frame.new.writer (c.in-Err.ensures.err.0, c.in-Err.ensures.err.1, c.in-Err.ensures.unwritten) c.end_reported.ensures.last c.end_reported.ensures.status c.end_reported.ensures.reported refl c.close.ensures
+returns-in-Err g c = ungreeted c.in-Err.why c.frame.new.writer (c.in-Err.ensures.err.0, c.in-Err.ensures.err.1, c.in-Err.ensures.unwritten, began_cut g.T.Tells.voice _ _ _ _ c.in-Err.ensures.err.1 c.in-Err.ensures.cut) c.end_reported.ensures.last c.end_reported.ensures.status c.end_reported.ensures.reported refl c.close.ensures

@@ -10,4 +10,4 @@ returns-then-is_printed g c =
 pub returns : goal.returns
 returns g c =
     faulted_by g.T.Tells.voice (writing g.W.Write.contents c.args.output.now c.fault.new.writer) c.args.whole c.fault.result c.args.why c.is_printed.result false c.is_printed.ensures c.if-is_printed.false
-    (c.fault.ensures.still, c.fault.ensures.reported)
+    (c.fault.ensures.still, c.fault.ensures.reported, c.fault.ensures.front)
