@@ -1,23 +1,18 @@
 -- What a program answers, by what its call answered, where the disk was closed.
-use Rattle.std.proofs.Common.{◌≡◌, ◌≤◌, ℕ, List, Option, Some, None, refl, ap, true, false, length, sym, ◌∙◌}
-use Rattle.std.proofs.lemmas.Bool.{false≢true}
-use Rattle.std.proofs.lemmas.Option.{IfSome_then}
-use Rattle.std.specs.Prelude.{Bool, Result, Ok, Err, IfOk, IfErr, IfSome, IsErrOf, OnOk}
+use Rattle.std.proofs.Common.{◌≡◌, refl, ap, true, sym, ◌∙◌}
+use Rattle.std.specs.Prelude.{Bool, Result, Ok, Err, IfErr, IsErrOf, OnOk}
 use Rattle.std.specs.Io.KnownBytes.{Appends}
 use Rattle.disk_model.specs.Disk.{InModel, Looks, Rises, SameDisk, bytes_on}
 use Rattle.worksheet.specs.Contents.{Contents}
 use Rattle.recovery.specs.Sheets.{IsSheetImage}
 use Rattle.journal.specs.declared.opening.OpenCause.TheVariants as opens
-use Rattle.host_events.specs.declared.outcome.HostFault.TheVariants as hosts
-use Rattle.child_edge.specs.Faithful.{Relation}
-use Rattle.offline_programs.specs.Faults.{TellsShow, Untouched}
-use Rattle.offline_programs.specs.Input.{longest_standard_input}
+use Rattle.offline_programs.specs.Faults.{TellsShow}
 use Rattle.offline_programs.specs.declared.fault.RunFault.{RunFault}
 use Rattle.offline_programs.specs.declared.fault.RunFault.TheVariants as fault
 use Rattle.sheet_text.specs.Texts.{sheet_text}
 use Rattle.program_endings.specs.Ending.{answer_of}
 use Rattle.program_endings.specs.Programs.{ShownOf}
-use Rattle.program_endings.specs.Records.{Calling, DoesNothing, GivenDisk, Writing, outside_after, outside_before, text_after, text_before, view_given}
+use Rattle.program_endings.specs.Records.{GivenDisk, Writing, text_after, text_before, view_given}
 
 abbrev error_or : {T E : Type 0} → E → Result T E → E
 error_or other (Ok x) = other

@@ -1,15 +1,14 @@
 -- What the driver's run of fields over a disk is as the contract of `eval` has it.
-use Rattle.std.proofs.Common.{◌≡◌, ℕ, Bool, true, List, [], ◌∷◌, subst, sym, Ok, Err}
+use Rattle.std.proofs.Common.{◌≡◌, ℕ, Bool, true, List, subst, Ok, Err}
 use Rattle.std.specs.Prelude.{IfOk, Option, Result}
 use Rattle.disk_model.specs.Disk.{DiskView, SameDisk}
 use Rattle.driver.specs.Noted.{PrintedSoFar, noting_rules, printed_so_far}
-use Rattle.driver.specs.Over.{Over, ProgramParts, not_opened, program_parts, ran_over}
+use Rattle.driver.specs.Over.{Over, ProgramParts, program_parts, ran_over}
 use Rattle.driver.specs.Place.{Rules, SourceRules}
 use Rattle.driver.proofs.TrueFaults.{over_true}
 use Rattle.evaluation.specs.Programs.{Finds}
 use Rattle.evaluation.specs.declared.plan.Plan.{Plan}
 use Rattle.field_agenda.specs.declared.by_fields.ByFields.{ByFields}
-use Rattle.field_agenda.specs.declared.stage.Stage.{Stage}
 use Rattle.field_agenda.specs.FieldLines.{by_field_lines}
 use Rattle.field_agenda.specs.Stages.{IsEnded}
 use Rattle.field_agenda.specs.Standing.{first_fields}

@@ -1,7 +1,6 @@
 -- What the driver's run over a disk is as the programs' contracts have it.
-use Rattle.std.proofs.Common.{◌≡◌, ◌∙◌, ℕ, Bool, true, false, List, [], ap, refl, sym, subst, Ok, Err}
+use Rattle.std.proofs.Common.{◌≡◌, ◌∙◌, ℕ, Bool, true, List, [], ap, sym, subst}
 use Rattle.std.specs.Prelude.{Option, None, Result}
-use Rattle.std.specs.declared.alloc.Global.{Global}
 use Rattle.disk_model.specs.Disk.{DiskView, SameDisk}
 use Rattle.child_calls.specs.declared.seat.Seat.{Seat}
 use Rattle.arrivals.specs.Held.{Held, nothing_held}
@@ -27,7 +26,7 @@ use Rattle.line_agenda.proofs.OwnFaults.{own_faults}
 use Rattle.offline_programs.specs.declared.fault.RunFault.{RunFault}
 use Rattle.sheet_files.specs.Closing.{Closable}
 use Rattle.tellings.specs.Voice.{Voice}
-use Rattle.program_endings.specs.LiveProgram.{FaultReported, FaultedBy, LiveBegun, LiveSetting, LivedEnds, LivesOn, answer_after, is_printed, live_setting, lived}
+use Rattle.program_endings.specs.LiveProgram.{FaultedBy, LiveBegun, LiveSetting, LivedEnds, LivesOn, answer_after, is_printed, live_setting, lived}
 use Rattle.program_endings.specs.Records.{GivenDisk, Writing, calling, given_disk, run_of, writing}
 use Rattle.program_endings.specs.StrictProgram.{StrictAnswer}
 

@@ -1,6 +1,6 @@
 -- How the program `eval` ends: what it evaluates and writes, what it says on which stream, and the exit status.
 use Rattle.std.specs.Io.KnownBytes.{Appends}
-use Rattle.std.specs.Prelude.{◌≡◌, ◌⊎◌, ◌==◌, ◌&&◌, ℕ, Bool, true, false, List, Option, Some, None, Result, Ok, Err, IfErr, if◌then◌else◌}
+use Rattle.std.specs.Prelude.{◌≡◌, ◌==◌, ◌&&◌, ℕ, Bool, true, false, List, Option, Some, None, Result, Ok, Err, IfErr, if◌then◌else◌}
 use Rattle.disk_model.specs.Disk.{DiskView, SameDisk}
 use Rattle.offline_programs.specs.Saying.{IsSaid, Saying}
 use Rattle.offline_programs.specs.declared.fault.RunFault.{RunFault}
@@ -25,7 +25,7 @@ use Rattle.field_agenda.specs.Standing.{first_fields}
 use Rattle.field_agenda.specs.declared.by_fields.ByFields.{ByFields}
 use Rattle.field_agenda.specs.declared.stage.Stage.{Stage}
 use Rattle.field_agenda.specs.declared.stage.Stage.TheVariants as stage
-use Rattle.program_endings.specs.LiveProgram.{Began, FrameWithheld, EndsFaulted, FaultReported, Framed, LastReported}
+use Rattle.program_endings.specs.LiveProgram.{Began, FrameWithheld, EndsFaulted, Framed, LastReported}
 use Rattle.program_endings.specs.StrictProgram.{stopped_after_text}
 use Rattle.program_endings.specs.Records.{ProgramPassage, ProgramRun, Streams, run_on, run_since, run_until, streams, text_after, text_before, view_given}
 use Rattle.program_endings.specs.declared.ending.Ending.{Ending}

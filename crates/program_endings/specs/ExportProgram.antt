@@ -1,5 +1,5 @@
 -- How the program `export` ends: what it writes of its files, what it tells on which stream, and the exit status.
-use Rattle.std.specs.Prelude.{◌≡◌, ℕ, Bool, true, false, List, Option, Result, Ok, Err, IfOk, IfErr, IsErrOf, OnOk}
+use Rattle.std.specs.Prelude.{◌≡◌, ℕ, Bool, true, false, List, Result, Ok, Err, IfOk, IfErr, IsErrOf, OnOk}
 use Rattle.std.specs.Io.KnownBytes.{Appends}
 use Rattle.disk_model.specs.Disk.{InModel, Looks, Rises, SameDisk, bytes_on}
 use Rattle.journal.specs.declared.opening.OpenCause.TheVariants as opens

@@ -1,5 +1,5 @@
 -- How a run ends that may have stopped after a line that went wrong: what it tells on which stream, and the exit status.
-use Rattle.std.specs.Prelude.{◌≡◌, ℕ, Bool, true, List, [], ◌∷◌, ◌++◌, Option, Some, None, Result, Ok, Err, codes}
+use Rattle.std.specs.Prelude.{◌≡◌, ℕ, Bool, List, [], ◌∷◌, ◌++◌, Option, Some, None, Result, Ok, Err, codes}
 use Rattle.std.specs.Fmt.{decimal}
 use Rattle.offline_programs.specs.Faults.{fault_text}
 use Rattle.offline_programs.specs.Saying.{IsSaid, Saying}
