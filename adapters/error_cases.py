@@ -4,7 +4,6 @@ Of a text that begins with `..` it is what the error has somewhere. What only lo
 """
 from typing import Dict, List, Tuple
 
-AT_TOP = "  ***   at top-level: %s\n  ***  "
 NO_INPUT = "a line has no input of its own"
 PYTHON: List[Tuple[str, str]] = [
     ("1 / 0", "..ZeroDivisionError: division by zero"), ("print('so'); [][1]", "..IndexError: list index out of range"), ("print(", "..SyntaxError"),

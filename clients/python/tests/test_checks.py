@@ -45,8 +45,8 @@ def starts(reported: "Iterable[Union[Checked, Compared]]") -> List[bool]:
 class Words(unittest.TestCase):
     def test_what_the_program_is_given(self) -> None:
         self.assertEqual(words_of_check("tmhost", "sheet", CheckWords()), ["tmhost", "check", "--json", "--jobs=1", "sheet"])
-        asked = CheckWords("a", [3, 7], 60, 8, True)
-        more = ["--only=a", "--leave-out=3,7", "--timeout=60", "--all", "--jobs=8"]
+        asked = CheckWords("a", [3, 7], 60, 8, True, [1, 2])
+        more = ["--only=a", "--leave-out=3,7", "--compare=1,2", "--timeout=60", "--all", "--jobs=8"]
         self.assertEqual(words_of_check("tmhost", "sheet", asked), ["tmhost", "check", "--json", *more, "sheet"])
 
     def test_what_it_is_not_asked_for(self) -> None:
@@ -91,6 +91,8 @@ class Checks(Case):
         self.assertEqual([one.verdict for one in reported if isinstance(one, Checked)], ["same", "left_out", "left_out", "same"])
         self.assertEqual(reported[-1], Compared(2, 0, 0, 2))
         self.assertEqual(bare(check(self.path, only="a", leave_out=[2, 3], timeout=60, program=PROGRAM)), bare(reported))
+        alone = list(check(self.path, only="a", compare=[1, 4], program=PROGRAM))
+        self.assertEqual([one.verdict for one in alone if isinstance(one, Checked)], ["same", "left_out", "left_out", "same"])
         self.assertEqual(list(check(self.path, only="b", program=PROGRAM)), [Compared(0, 0, 0, 0)])
         self.assertEqual(list(check(self.path, CheckWords("a", jobs=8), PROGRAM, only="b")), [Compared(0, 0, 0, 0)])
 

@@ -92,8 +92,8 @@ def read(line: bytes) -> "Union[Checked, Compared, Hello, Fault, End, None]":
 class CheckWords:
     """What a check is asked for.
 
-    `only` names the one session whose fields are evaluated; the outputs of fields with the numbers `leave_out` aren't compared; a field may
-    take `timeout` seconds. Fields of up to `jobs` sessions (at most 64) are evaluated side by side. With `all` also those that show no
+    `only` names the one session whose fields are evaluated; the outputs of fields with the numbers `leave_out` aren't compared, or of those with
+    the numbers `compare` alone are; a field may take `timeout` seconds. Fields of up to `jobs` sessions (at most 64) are evaluated side by side. With `all` also those that show no
     answer are evaluated.
     """
 
@@ -102,6 +102,7 @@ class CheckWords:
     timeout: Optional[int] = None
     jobs: int = 1
     all: bool = False
+    compare: Sequence[int] = ()
 
 
 def words_of_check(program: Program, path: str, asked: CheckWords) -> List[str]:
@@ -110,6 +111,8 @@ def words_of_check(program: Program, path: str, asked: CheckWords) -> List[str]:
         words.append(f"--only={asked.only}")
     if asked.leave_out:
         words.append("--leave-out=" + ",".join(str(id) for id in asked.leave_out))
+    if asked.compare:
+        words.append("--compare=" + ",".join(str(id) for id in asked.compare))
     if asked.timeout is not None:
         words.append(f"--timeout={asked.timeout}")
     if asked.all:
@@ -137,7 +140,7 @@ def check(
 
     Gives a `Checked` for each field, in order and as soon as it is known, and at last a `Compared`. With more `jobs` than one, all are given
     when the last is known. Raises InUse, NoWorksheet (a FileNotFoundError), or Died for another fault, also where no field has a number of
-    `leave_out`, or a death of the program. To stop early, close the iterator: the program is ended then.
+    `leave_out` or of `compare`, or a death of the program. To stop early, close the iterator: the program is ended then.
     """
     if not isinstance(words, (CheckWords, type(None))):
         raise TypeError("what a check is asked for is a CheckWords, or has a name, as only=")

@@ -37,7 +37,7 @@ impl<R: Read> InputLines<R> {
         Ok(InputLines { reader, held })
     }
 
-    /// Reads once what is there, up to 65,536 bytes. It may block where nothing is there; no bytes are the
+    /// Reads once what is there, up to what the buffer has room for: 131,074 bytes where nothing is held. It may block where nothing is there; no bytes are the
     /// end of the input, after which nothing is read. Nothing is read either where the buffer is full, which
     /// it never is where `next` asked for more.
     ///
