@@ -1,5 +1,6 @@
 -- The whole program: which task its words ask for, what that task does and leaves alone, and how the program ends.
 use Rattle.std.specs.Prelude.{◌≡◌, ◌≢◌, true, false, Bool, List, Result, Err, IfOk, IfErr, MatchResult}
+use Rattle.std.specs.Io.KnownBytes.{Keeps}
 use Rattle.std.specs.declared.io.ErrorKind.{ErrorKind as IoKind}
 use Rattle.std.specs.declared.io.ErrorKind.TheVariants as io_kind
 use Rattle.clap.specs.Words.{FailsBy, Text, fault_of, kind_of}
@@ -89,9 +90,10 @@ module _ {Y D P S I W E Q : Type 0} (o : OutsideView D P S I W E) where
   EndsBrought false old new alone ending = (alone.status ≡ 1 → (ending ≡ alone) × (new.errors ≡ old.errors))
       × (alone.status ≢ 1 → EndsWith o old new ending (Err fault.Output))
 
-  -- Last of all the output is flushed, after what the program came to.
+  -- Last of all the output is flushed, after what the program came to, and nothing else is written.
   abbrev pub FlushesOutput : Outside Y D P S I W E Q → Outside Y D P S I W E Q → Ending → Ending → Type 0
-  FlushesOutput old new alone ending = OnlyWritten old new × ((all : Bool) × o.streams.flushed old.output all new.output × EndsBrought all old new alone ending)
+  FlushesOutput old new alone ending = OnlyWritten old new × Keeps (o.streams.written old.output) (o.streams.written new.output)
+      × ((all : Bool) × o.streams.flushed old.output all new.output × EndsBrought all old new alone ending)
 
   -- the whole program: it ends by its words, and then its output is flushed
   abbrev pub Performs : {T : Type 0} → (T → List Text) → Result T IoKind → Outside Y D P S I W E Q → Outside Y D P S I W E Q → Ending → Type 0

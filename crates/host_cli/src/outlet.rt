@@ -11,12 +11,15 @@ use std::io::{BufWriter, Write};
 /// No contract can say what a call on a real stream brings about. That the call was made, after all that was
 /// written, the relation says: generic code has it by that call alone.
 pub trait Outlet: Write {
+    ghost use Rattle.std.specs.Io.KnownBytes.{Keeps};
+
     /// The output before the call, whether all was flushed, and the output after it.
     ghost flushed: { Self → Bool → Self → Type 0 };
 
-    /// Flushes what is kept back.
+    /// Flushes what is kept back, and writes nothing else.
     fn flush_out(&mut self) -> io::Result<()>
-        ensures { flushed self.old (is_ok result) self.new };
+        ensures flushed { flushed self.old (is_ok result) self.new }
+        ensures kept { Keeps (Self.contents self.old) (Self.contents self.new) };
 }
 
 impl<W: Write + Drop> Outlet for BufWriter<W> {
