@@ -13,7 +13,7 @@ use std::marker::Model;
 /// The most bytes of a line, without what ends it.
 pub const LONGEST_LINE: usize = 65_536;
 
-/// The most bytes that are held: two lines of the greatest length with their ends, so that a read always has room behind the one that is begun.
+/// The most bytes that are held: two lines of the greatest length with their ends, so that a read has room after one that is begun.
 const ROOM: usize = 131_074;
 
 /// How often a read is tried: once, and again at most 1,000 times where it was interrupted.
