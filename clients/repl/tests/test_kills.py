@@ -15,7 +15,7 @@ from typing import Callable, List
 from .support import COMMAND, Case, Terminal, children_of, environment
 
 KILLS = int(os.environ.get("TMHOST_KILLS", "12"))
-LINES = [f"say answer {number}" for number in range(400)]
+LINES = [f"say answer {number}" for number in range(2000)]  # more than are answered before a kill: one that waits for a line sees no end of the program
 
 
 def kill_program(pid: int) -> None:

@@ -8,7 +8,7 @@ import sys
 import time
 import unittest
 
-from .support import COMMAND, INTERPRETER, LINE_END, PROGRAM, ROOT, Case, children_of, environment, heed_interrupts
+from .support import COMMAND, INTERPRETER, LINE_END, PROGRAM, ROOT, Case, Worksheet, children_of, environment, heed_interrupts
 
 
 class Pipe(Case):
@@ -84,8 +84,10 @@ class Pipe(Case):
         self.assertEqual((done.returncode, done.stderr), (1, b"tmhost-repl: No space left on device\n"))
 
     def test_what_starts_no_interpreter(self) -> None:
-        self.make()
-        status, out, errors = self.pipe("%session u tmhost-nothing\nx\n", self.sheet, "t")
+        with Worksheet(self.sheet, create=True, program=PROGRAM) as worksheet:
+            worksheet.session("t", INTERPRETER)
+            worksheet.session("u", ["tmhost-nothing"])
+        status, out, errors = self.pipe("%session u\nx\n", self.sheet, "t")
         self.assertEqual((status, out), (1, ""))
         self.assertTrue(errors.startswith("tmhost-repl: u: there is no program tmhost-nothing\n"), errors)
 
@@ -142,9 +144,22 @@ class Pipe(Case):
         self.assertEqual(self.pairs(), [("a", "a"), ("c", "c")])
 
     def test_an_interpreter_that_is_missing(self) -> None:
-        status, out, errors = self.pipe("a\n", "--create", self.sheet, "x", "/nonexistent/program")
+        with Worksheet(self.sheet, create=True, program=PROGRAM) as worksheet:
+            worksheet.session("x", ["/nonexistent/program"])
+        status, out, errors = self.pipe("a\n", self.sheet, "x", "/nonexistent/program")
         self.assertEqual((status, out), (1, ""))
         self.assertIn("lost: #1 (StartRefused)", errors)
+
+    def test_a_program_that_is_misspelt(self) -> None:
+        """Neither the worksheet nor the session is made, so the right words are taken then."""
+        meant = "tmhost-repl: py: there is no program tmhost-pyhton: is tmhost-python meant?\n"
+        self.assertEqual(self.pipe("1\n", "--create", self.sheet, "py", "tmhost-pyhton"), (2, "", meant))
+        self.assertEqual(self.pipe("1\n", "--create", self.sheet, "py", "/nonexistent/program")[:2], (2, ""))
+        self.assertEqual(os.listdir(self.folder), [])
+        self.make()
+        self.assertEqual(self.pipe("1\n", self.sheet, "py", "tmhost-pyhton"), (2, "", meant))
+        self.assertEqual(self.pipe("%session py tmhost-pyhton\na\n", self.sheet, "t"), (1, "a\n", meant))
+        self.assertEqual(self.pipe("1\n", self.sheet, "py", "tmhost-python"), (0, "1\n", ""))
 
     def test_words_make_a_session(self) -> None:
         self.assertEqual(self.pipe("a\n", "--create", self.sheet, "t", *INTERPRETER)[:2], (0, "a\n"))

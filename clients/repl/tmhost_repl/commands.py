@@ -5,7 +5,7 @@ from typing import Callable, Dict, List, Optional, Sequence, Tuple, Union
 
 from tmhost import BadLine, Cell, Refused, Worksheet
 from tmhost.advice import OF_REFUSALS
-from tmhost.starting import doubt, never_answers
+from tmhost.starting import doubt, missing_program, never_answers
 
 from .console import Console
 from .evaluation import Evaluator, Outcome
@@ -163,10 +163,19 @@ def refuse_bare(name: str, words: Sequence[str]) -> None:
         raise Mistake(f"{name}: {why}")
 
 
+def refuse_missing(name: str, words: Sequence[str]) -> None:
+    """A session whose first word is no program isn't made: it may be misspelt, and a session keeps its words. Of an adapter whose interpreter isn't here the
+    words are right."""
+    missing = missing_program(words) if words else None
+    if missing and missing[0] == words[0]:
+        raise Mistake(f"{name}: {missing[1]}")
+
+
 def ensure(worksheet: Worksheet, name: str, words: List[str], tab: bool) -> Optional[str]:
     """Makes a session where it isn't there; one that is there has to have these words."""
     found = worksheet.sessions.get(name)
     if found is None:
+        refuse_missing(name, words)
         worksheet.session(name, words, tab)
         return name
     if list(found.words) != words:

@@ -13,7 +13,7 @@ from tmhost.program import show_building
 from tmhost.version import ShowVersion
 from tmhost_fences.output import Parser, give_up, run_and_flush
 
-from .commands import PROSE, Commands, Mistake, ensure, explained, refuse_bare
+from .commands import PROSE, Commands, Mistake, ensure, explained, refuse_bare, refuse_missing
 from .completion import Draft
 from .console import Console, Terminal, new_console
 from .evaluation import Evaluator, control_c_raises
@@ -42,7 +42,10 @@ def options(words: List[str]) -> argparse.Namespace:
 def opened(given: argparse.Namespace, console: Console) -> Worksheet:
     """The worksheet, made where it isn't there and is wanted. Words that start no interpreter for it are refused before."""
     refuse_bare(given.session or "", given.words)
-    if not given.create and not os.path.lexists(given.sheet):
+    is_there = os.path.lexists(given.sheet)
+    if not is_there:
+        refuse_missing(given.session or "", given.words)
+    if not given.create and not is_there:
         if not console.is_terminal:
             raise Mistake(f"there is no worksheet {given.sheet}: --create makes it")
         if console.choose(f"There is no worksheet {given.sheet}. Make it? [y]es, [n]o:", "yn") != "y":

@@ -189,10 +189,18 @@ class Notebooks(Forms):
         self.assertEqual(self.verdicts(self.put("a.md", text)), ["ok", "ok", "differs"], text)
 
     def test_lines_that_ipython_alone_knows(self) -> None:
-        """They are errors of Python, so it is said what evaluates them."""
-        path = self.notebook("python", [("1", [self.result("1")]), ("# NBVAL_SKIP\n%skipped", []), ("%matplotlib inline\n2", []), ("!ls", []), ("5 != 6\nx = (7\n % 2)", [])])
+        """They are left out, as tmhost-import does, and what stands beside them is evaluated."""
+        cells: List[Any] = [
+            ("1", [self.result("1")]), ("# NBVAL_SKIP\n%skipped", []), ("%matplotlib inline\nx = 2\nx", [self.result("2")]), ("!ls", []), ("%%bash\nls\npwd", []),
+            ("%%time\nx + 1", [self.result("3")]), ("5 != 6\nx = (7\n % 2)", []),
+        ]
+        path = self.notebook("python", cells)
         ran = self.run_suite(path)
-        self.assertEqual(ran.output.splitlines()[0], f"{path}: lines that IPython alone knows: 2, the first of cell 3: %matplotlib inline; --words 'tmhost-jupyter python3' evaluates by it")
+        said = f"{path}: left out: lines that IPython alone knows: 6, the first of cell 3: %matplotlib inline; --words 'tmhost-jupyter python3' evaluates them"
+        self.assertEqual((ran.output.splitlines()[0], ran.output.count("IPython"), ran.status), (said, 1, 0))
+        self.assertEqual(self.verdicts(path, "--words", "tmhost-python"), ["ok", "skip", "ok", "ok", "ok"])
+        self.put("a.md", self.convert(path, ": 6 lines of IPython, left out"))
+        self.assertEqual(self.verdicts(self.place("a.md")), ["ok", "skip", "ok", "ok", "ok"])
         self.assertNotIn("IPython", self.run_suite("--words", self.words_of_the_tests(), path).output)
 
     def test_tags_and_remarks_of_nbval(self) -> None:
@@ -273,7 +281,7 @@ class Notebooks(Forms):
         formula = {"output_type": "execute_result", "execution_count": 1, "metadata": {}, "data": {"text/latex": "$\\displaystyle x^{2}$", "text/plain": "x**2"}}
         picture = {"output_type": "display_data", "metadata": {}, "data": {"image/png": "iVBORw0KGgo=", "text/plain": "<Figure>"}}
         cells: List[Any] = [
-            ("class F:\n    def _repr_latex_(self): return '$x^{2}$'\nF()", [formula]),
+            ("class F:\n    def _repr_latex_(self): return r'$\\displaystyle  x^{2}$'\nF()", [formula]),
             ("class P:\n    def _repr_svg_(self): return '<svg xmlns=\"http://www.w3.org/2000/svg\"/>'\nP()", [picture]),
             ("print('a'); P()", [picture]),
         ]

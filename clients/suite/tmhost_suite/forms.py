@@ -2,7 +2,7 @@
 import dataclasses
 import os
 import re
-from typing import NamedTuple, Optional, Tuple
+from typing import NamedTuple, Optional, Sequence, Tuple
 
 from tmhost_fences.fields import whole
 from tmhost_fences.troubles import Trouble
@@ -32,6 +32,12 @@ def session_of(words: str) -> Session:
         raise Trouble("--words names no interpreter")
     name = os.path.basename(next((word for word in reversed(found) if word[0] != "-"), found[0])).removeprefix("tmhost-")
     return Session(re.sub(r"\W", "_", name, flags=re.ASCII)[:20], found)
+
+
+def formula_of(formula: str, words: Sequence[str]) -> str:
+    """A formula as the interpreter of these words shows it. The adapter for kernels leaves out that it is large."""
+    is_kernel = any(os.path.basename(word).removeprefix("tmhost-") == "jupyter" for word in words)
+    return "{latex:$" + " ".join((formula.replace("\\displaystyle", "") if is_kernel else formula).split()) + "$}"
 
 
 def lines_of(count: int, what: str) -> str:

@@ -9,7 +9,7 @@ import os
 import re
 import shlex
 import textwrap
-from typing import Any, Callable, Dict, Iterator, List, Optional, Tuple
+from typing import Any, Callable, Dict, Iterator, List, Optional, Sequence, Set, Tuple
 
 from tmhost import readable
 from tmhost_fences.blocks import blocks_of
@@ -18,7 +18,8 @@ from tmhost_fences.info import LITERAL
 from tmhost_fences.troubles import Missing, Trouble
 
 from .cases import Case, Marks, Suite
-from .forms import FOLDER, GAP, GP, OCTAVE, PYTHON, SHELL, Session, lines_of, own_case, session_of, whole_case
+from .forms import FOLDER, GAP, GP, OCTAVE, PYTHON, SHELL, Session, formula_of, lines_of, own_case, session_of, whole_case
+from .ipython import plain_python, told
 from .rules import ANY_LINES, BY_GLOB, BY_PATTERN, PICTURES, Rules, exactly
 from .text import Text, misspellings
 from .transcripts import is_gap, is_octave, pari_wanted, read_gap, read_octave, read_pari
@@ -29,7 +30,6 @@ CONTROL = re.compile(r"[\x00-\x08\x0a-\x1f\x7f]")
 FORMULA = re.compile(r"\s*(\${1,2})([^$]+)\1\s*")
 PICTURE_TYPES = ("image/svg+xml", "image/png", "image/jpeg")
 LONGEST_QUOTE = 60  # characters of a line, in a message
-IPYTHONS = re.compile(r"[ \t]*(%%?[a-zA-Z]|![^=])")  # the beginning of a line that is a magic or a command of the shell
 NBVAL = re.compile(r"^[ \t]*# ?(NBVAL_\w+|PYTEST_VALIDATE_IGNORE_OUTPUT)", re.MULTILINE)
 SKIPPING, FREEING = ("nbval-skip", "skip-execution"), ("nbval-ignore-output", "pytest-validate-ignore-output")
 PLAIN_TAG = re.compile(r"[\w.:-]+")
@@ -172,7 +172,7 @@ def text_in(value: Any) -> str:
     return value if isinstance(value, str) else "".join(value or [])
 
 
-def output_of(output: Dict[str, Any], language: str) -> str:
+def output_of(output: Dict[str, Any], language: str, words: Sequence[str]) -> str:
     """An output as the adapters show it: a formula, or plain text; pictures are left out. Of an error its last line is wanted; kernels of other
     languages than Python's name it in their own words, in which it is what stands after the last colon."""
     kind = output.get("output_type")
@@ -186,7 +186,7 @@ def output_of(output: Dict[str, Any], language: str) -> str:
     data = output.get("data", {})
     formula = FORMULA.fullmatch(text_in(data.get("text/latex")))
     if formula:
-        return "{latex:$" + " ".join(formula[2].replace("\\displaystyle", "").split()) + "$}"
+        return formula_of(formula[2], words)
     return "" if any(name in data for name in PICTURE_TYPES) else text_in(data.get("text/plain")).rstrip("\n")
 
 
@@ -203,46 +203,63 @@ def read_notebook(path: str, text: str, session: Session) -> Suite:
         notebook = json.loads(text)
         metadata = notebook.get("metadata", {})
         language = str(metadata.get("kernelspec", {}).get("language") or metadata.get("language_info", {}).get("name") or "python")
-        cases, after = notebook_cases(session.name, notebook["cells"], language)
+        is_plain = os.path.basename(session.words[0]) == PYTHON.words[0]
+        cells, own = without_ipython(notebook["cells"]) if is_plain else (notebook["cells"], [])
+        cases, after = notebook_cases(session, cells, language)
     except (ValueError, KeyError, AttributeError, TypeError):
         raise Trouble("it is no notebook of Jupyter") from None
     if language != "python" and session == PYTHON:
         raise Trouble(f"the notebook is in {language}: --words names the interpreter of its cells")
     raw = sum(text_in(cell.get("source")).count("\n") + 1 for cell in notebook["cells"] if cell.get("cell_type") == "raw")
-    left_out = (f"{lines_of(raw, 'raw cells')}, which are no Markdown",) if raw else ()
-    doubts = lines_of_ipython(path, cases) if session == PYTHON else ()
+    left_out = ((f"{lines_of(raw, 'raw cells')}, which are no Markdown",) if raw else ()) + ((lines_of(len(own), "IPython"),) if own else ())
     folder = os.path.dirname(os.path.abspath(path))
-    return Suite(path, dict([session]), Rules(without=frozenset([PICTURES])), None, tuple(cases), after, left_out, doubts, folder)
+    return Suite(path, dict([session]), Rules(without=frozenset([PICTURES])), None, tuple(cases), after, left_out, told(path, own), folder)
 
 
-def lines_of_ipython(path: str, cases: List[Case]) -> Tuple[str, ...]:
-    """What is said of a notebook with lines that IPython alone knows: to Python each is an error."""
-    found = [(case.line, readable(line.strip())[:LONGEST_QUOTE]) for case in cases if case.marks.skip is None for line in case.lines if IPYTHONS.match(line)]
-    if not found:
-        return ()
-    return (f"{path}: lines that IPython alone knows: {len(found)}, the first of cell {found[0][0]}: {found[0][1]}; --words 'tmhost-jupyter python3' evaluates by it",)
+def without_ipython(cells: List[Any]) -> Tuple[List[Any], List[Tuple[int, str]]]:
+    """The cells without the lines that IPython alone knows, since to Python each is an error that takes all of its cell. These come too, each with the
+    number of its cell."""
+    plain: List[Any] = []
+    left_out: List[Tuple[int, str]] = []
+    for number, cell in enumerate(cells, 1):
+        if cell.get("cell_type") == "code" and skipped(tags_of(cell)) is None:
+            made = plain_python(text_in(cell.get("source")))
+            left_out += [(number, readable(line)[:LONGEST_QUOTE]) for line in made.left_out]
+            cell = {**cell, "source": made.code}
+        plain.append(cell)
+    return plain, left_out
 
 
-def notebook_case(session: str, cell: Dict[str, Any], language: str, number: int, before: str) -> Optional[Case]:
-    """The case of a cell of code. None where it has none. Its tags, and those that nbval reads in remarks, say whether it is skipped, and
-    whether its outputs may be others. Of one that was never run nothing is known of what is wanted."""
+def tags_of(cell: Dict[str, Any]) -> Set[str]:
+    """The tags of a cell, and those that nbval reads in its remarks."""
+    words = NBVAL.findall(text_in(cell.get("source")))
+    return {str(tag) for tag in cell.get("metadata", {}).get("tags", [])} | {word.lower().replace("_", "-") for word in words}
+
+
+def skipped(tags: Set[str]) -> Optional[str]:
+    """Why a cell with these tags is skipped."""
+    return next((f"by its tag {tag}" for tag in SKIPPING if tag in tags), None)
+
+
+def notebook_case(session: Session, cell: Dict[str, Any], language: str, number: int, before: str) -> Optional[Case]:
+    """The case of a cell of code. None where it has none. Its tags say whether it is skipped, and whether its outputs may be others. Of one that was
+    never run nothing is known of what is wanted."""
     source = text_in(cell.get("source"))
     fields = tuple(whole(cell_lines(source, language)))
     if not fields:
         return None
-    tags = {str(tag) for tag in cell.get("metadata", {}).get("tags", [])} | {word.lower().replace("_", "-") for word in NBVAL.findall(source)}
-    skip = next((f"by its tag {tag}" for tag in SKIPPING if tag in tags), None)
-    marks = Marks(skip=skip, tags=frozenset(tag for tag in tags if PLAIN_TAG.fullmatch(tag)))
+    tags = tags_of(cell)
+    marks = Marks(skip=skipped(tags), tags=frozenset(tag for tag in tags if PLAIN_TAG.fullmatch(tag)))
     outputs = cell.get("outputs", [])
     is_free = not tags.isdisjoint(FREEING)
     was_run = outputs or cell.get("execution_count") is not None
-    texts = (output_of(it, language) for it in outputs)
+    texts = (output_of(it, language, session.words) for it in outputs)
     wanted = ANY_LINES if is_free else "\n".join(part for part in texts if part) if was_run else None
     may_err = any(it.get("output_type") == "error" for it in outputs)
-    return Case(session, marks, tuple(source.split("\n")), fields, number, wanted, "" if is_free and not may_err else None, before)
+    return Case(session.name, marks, tuple(source.split("\n")), fields, number, wanted, "" if is_free and not may_err else None, before)
 
 
-def notebook_cases(session: str, cells: List[Dict[str, Any]], language: str) -> Tuple[List[Case], str]:
+def notebook_cases(session: Session, cells: List[Dict[str, Any]], language: str) -> Tuple[List[Case], str]:
     """The cases, and the prose after them."""
     cases: List[Case] = []
     prose: List[str] = []
