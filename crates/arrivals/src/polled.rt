@@ -72,7 +72,9 @@ impl<C: Outputs + Drop, K: Clock + Drop> Polled<C, K> {
     }
 
     /// The next life that was ready at the last poll and still runs.
-    fn next_ready(&mut self) -> Option<Seat> {
+    fn next_ready(&mut self) -> Option<Seat>
+        ensures { self.new.children ≡ self.old.children }
+    {
         while let Some(seat) = self.ready.pop() {
             let Seat { name, life } = seat;
             if self.children.is_running(seat) {
@@ -97,7 +99,9 @@ impl<C: Outputs + Drop, K: Clock + Drop> Polled<C, K> {
     }
 
     /// Keeps the lives that a poll found ready, the one that was started first as the next.
-    fn keep_ready(&mut self, places: &[pollfd; MOST_PLACES]) {
+    fn keep_ready(&mut self, places: &[pollfd; MOST_PLACES])
+        ensures { self.new.children ≡ self.old.children }
+    {
         self.ready.clear();
         for at in (1..MOST_PLACES).rev() {
             if places[at].revents != 0 && self.ready.len() < self.ready.capacity() {
@@ -122,7 +126,9 @@ impl<C: Outputs + Drop, K: Clock + Drop> Polled<C, K> {
 
     /// Polls these places, and once more after a moment where some lives may be about to answer. Whether that
     /// could be done.
-    fn look(&mut self, places: &mut [pollfd; MOST_PLACES], timeout: i32) -> bool {
+    fn look(&mut self, places: &mut [pollfd; MOST_PLACES], timeout: i32) -> bool
+        ensures { self.new.children ≡ self.old.children }
+    {
         if poll(places, timeout) < 0 {
             return false;
         }
@@ -138,7 +144,8 @@ impl<C: Outputs + Drop, K: Clock + Drop> Polled<C, K> {
 
     /// Looks once. `None` where a poll failed.
     fn poll_once(&mut self, input: Input, patience: Option<u64>, timeout: i32) -> Option<Woken>
-        ensures { IfSome result (MayCome (asked input patience)) }
+        ensures comes { IfSome result (MayCome (asked input patience)) }
+        ensures children { self.new.children ≡ self.old.children }
     {
         let mut places = self.places(input);
         if !self.look(&mut places, timeout) {
@@ -207,7 +214,10 @@ impl<C: Outputs + Drop, K: Clock + Drop> Children for Polled<C, K> {
 }
 
 impl<C: Outputs + Drop, K: Clock + Drop> Sources for Polled<C, K> {
-    ghost wakes = { λ _ _ _ _. Unit {0} };
+    ghost use Rattle.std.specs.Prelude.{◌≡◌};
+
+    // A watch makes no call on a child.
+    ghost wakes = { λ old _ _ new. new.children ≡ old.children };
 
     ghost clock = { λ _ _. Unit {0} };
 
