@@ -5,7 +5,8 @@ import random
 import unittest
 
 from tmhost_fences.fields import LONGEST_INPUT
-from tmhost_import import cutting, ipython
+from tmhost_fences import ipython
+from tmhost_import import cutting
 from tmhost_import.prose import size_of
 
 from .support import LINE_END, Case, code, needs_program, notebook
@@ -90,7 +91,7 @@ class IPython(unittest.TestCase):
             ("x % y\n# %a", "x % y\n# %a", []),
         ):
             made = ipython.plain_python(given)
-            self.assertEqual((made.code, made.left_out, made.other), (wanted, left, None), given)
+            self.assertEqual((made.code, [ipython.beginning(line) for line in made.left_out], made.other), (wanted, left, None), given)
 
     def test_cells_of_another_language(self) -> None:
         for given in ("%%bash\nls", "\n%%html\n<b>", "%%writefile a.py\nx"):

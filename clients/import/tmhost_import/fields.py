@@ -4,10 +4,11 @@ import os
 import sys
 from collections.abc import Iterator
 
+from tmhost_fences import ipython
 from tmhost_fences.fields import CONTROL, LINE_END, LONGEST_INPUT, SURROGATE, groups
 from tmhost_fences.troubles import Trouble
 
-from . import cutting, ipython
+from . import cutting
 from .cells import Cell, Document, fenced, plain, prose_cell
 from .prose import WORDS, parts_of, size_of
 from .sessions import COMMAND, Sessions, language_of
@@ -110,7 +111,7 @@ class Sheet:
     def add_python(self, cell: Cell, session: str) -> None:
         """Adds a cell without what of it is IPython's: the adapter for Python isn't IPython, and would refuse all of the cell."""
         made = ipython.plain_python(cell.text)
-        self.left_out.update(f"lines {plain(name)}" for name in made.left_out)
+        self.left_out.update(f"lines {plain(ipython.beginning(line))}" for line in made.left_out)
         if made.other and self.has_prose:
             self.add(prose_cell(cell.place, fenced(cell.text, PYTHON)))
         elif made.other:

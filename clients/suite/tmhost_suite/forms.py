@@ -2,7 +2,7 @@
 import dataclasses
 import os
 import re
-from typing import NamedTuple, Optional, Sequence, Tuple
+from typing import List, NamedTuple, Optional, Sequence, Tuple
 
 from tmhost_fences.fields import whole
 from tmhost_fences.troubles import Trouble
@@ -42,6 +42,14 @@ def formula_of(formula: str, words: Sequence[str]) -> str:
 
 def lines_of(count: int, what: str) -> str:
     return f"{count:,} line{'s' if count != 1 else ''} of {what}"
+
+
+def said_of(path: str, left_out: List[Tuple[int, str]]) -> Tuple[str, ...]:
+    """What is said of the lines that were left out, each with the number of its cell."""
+    if not left_out:
+        return ()
+    number, line = left_out[0]
+    return (f"{path}: left out: lines that IPython alone knows: {len(left_out)}, the first of cell {number}: {line}; --words 'tmhost-jupyter python3' evaluates them",)
 
 
 def whole_case(session: str, source: str, wanted: Optional[str], line: int, marks: Marks, before: str = "") -> Case:

@@ -15,11 +15,11 @@ from tmhost import readable
 from tmhost_fences.blocks import blocks_of
 from tmhost_fences.fields import LINE_END, Group, groups, language_in, whole
 from tmhost_fences.info import LITERAL
+from tmhost_fences.ipython import plain_python
 from tmhost_fences.troubles import Missing, Trouble
 
 from .cases import Case, Marks, Suite
-from .forms import FOLDER, GAP, GP, OCTAVE, PYTHON, SHELL, Session, formula_of, lines_of, own_case, session_of, whole_case
-from .ipython import plain_python, told
+from .forms import FOLDER, GAP, GP, OCTAVE, PYTHON, SHELL, Session, formula_of, lines_of, own_case, said_of, session_of, whole_case
 from .rules import ANY_LINES, BY_GLOB, BY_PATTERN, PICTURES, Rules, exactly
 from .text import Text, misspellings
 from .transcripts import is_gap, is_octave, pari_wanted, read_gap, read_octave, read_pari
@@ -213,7 +213,7 @@ def read_notebook(path: str, text: str, session: Session) -> Suite:
     raw = sum(text_in(cell.get("source")).count("\n") + 1 for cell in notebook["cells"] if cell.get("cell_type") == "raw")
     left_out = ((f"{lines_of(raw, 'raw cells')}, which are no Markdown",) if raw else ()) + ((lines_of(len(own), "IPython"),) if own else ())
     folder = os.path.dirname(os.path.abspath(path))
-    return Suite(path, dict([session]), Rules(without=frozenset([PICTURES])), None, tuple(cases), after, left_out, told(path, own), folder)
+    return Suite(path, dict([session]), Rules(without=frozenset([PICTURES])), None, tuple(cases), after, left_out, said_of(path, own), folder)
 
 
 def without_ipython(cells: List[Any]) -> Tuple[List[Any], List[Tuple[int, str]]]:
@@ -223,9 +223,11 @@ def without_ipython(cells: List[Any]) -> Tuple[List[Any], List[Tuple[int, str]]]
     left_out: List[Tuple[int, str]] = []
     for number, cell in enumerate(cells, 1):
         if cell.get("cell_type") == "code" and skipped(tags_of(cell)) is None:
-            made = plain_python(text_in(cell.get("source")))
-            left_out += [(number, readable(line)[:LONGEST_QUOTE]) for line in made.left_out]
-            cell = {**cell, "source": made.code}
+            code = text_in(cell.get("source"))
+            made = plain_python(code)
+            lines, left = (code.strip("\n").split("\n"), "") if made.other else (made.left_out, made.code)
+            left_out += [(number, readable(line)[:LONGEST_QUOTE]) for line in lines]
+            cell = {**cell, "source": left}
         plain.append(cell)
     return plain, left_out
 

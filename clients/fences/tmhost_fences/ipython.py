@@ -1,10 +1,9 @@
-"""What in a cell of a notebook is IPython's own, and no Python: magics, commands for a shell, and questions. tmhost-import leaves the same out, whose
-module of this name wants a later Python than tmhost-suite has to."""
+"""What in a cell of a notebook is IPython's own, and no Python: magics, commands for a shell, and questions."""
 import dataclasses
 import re
-from typing import List, Tuple
+from typing import List, Optional
 
-from tmhost_fences.fields import TEXTS
+from .fields import TEXTS
 
 CELL_MAGIC = re.compile(r"%%(\w+)")
 # Of these the rest of the cell is Python as it stands; of others it may be anything.
@@ -13,14 +12,16 @@ LINE = re.compile(r"(?P<indent>[ \t]*)(?P<what>%[A-Za-z_]\w*|!+\s*[\w./~-]*|\?{1
 TOKEN = re.compile(TEXTS["python"].pattern + r"|\\\n|[()\[\]{}\n]", re.DOTALL)
 OPENS, CLOSES = "([{", ")]}"
 TIME = "%time"  # what stands after it is a statement, which later cells may need
+QUESTION = "?"
 
 
 @dataclasses.dataclass
 class Plain:
-    """A cell as Python, and the lines that were left out: of one in another language all."""
+    """The cell as Python, and the lines that were left out. Of a cell in another language none is, and `other` is the magic that it begins with."""
 
     code: str
     left_out: List[str] = dataclasses.field(default_factory=list)
+    other: Optional[str] = None
 
 
 def line_end(code: str, at: int) -> int:
@@ -42,9 +43,10 @@ def plain_python(code: str) -> Plain:
     first = len(code) - len(code.lstrip("\n"))
     found = CELL_MAGIC.match(code, first)
     if found and found[1] not in OF_PYTHON:
-        return Plain("", code.strip("\n").split("\n"))
+        return Plain(code, other=found[0])
     at = line_end(code, first) if found else 0
-    made, kept = Plain(code, [code[first:at].rstrip("\n")] if found else []), [""]
+    made = Plain(code, [code[first:at].rstrip("\n")] if found else [])
+    kept: List[str] = []
     while at < len(code):
         end = line_end(code, at)
         own = LINE.match(code, at, end)
@@ -67,8 +69,9 @@ def left_of(own: "re.Match[str]") -> str:
     return own["indent"] + "pass\n" if own["indent"] else ""
 
 
-def told(path: str, left_out: List[Tuple[int, str]]) -> Tuple[str, ...]:
-    """What is said of the lines that were left out, each with the number of its cell."""
-    if not left_out:
-        return ()
-    return (f"{path}: left out: lines that IPython alone knows: {len(left_out)}, the first of cell {left_out[0][0]}: {left_out[0][1]}; --words 'tmhost-jupyter python3' evaluates them",)
+def beginning(line: str) -> str:
+    """What a line begins with that was left out: a magic, a command for a shell, or a question mark, wherever that stands."""
+    found = CELL_MAGIC.match(line)
+    own = found or LINE.match(line)
+    what = own[0] if found and own else own["what"] if own else line
+    return QUESTION if QUESTION in what else what
